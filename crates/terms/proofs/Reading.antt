@@ -3,6 +3,7 @@ use mathlib.Core.Path.{_≡_, refl, sym, _∙_, ap, ap₂, subst}
 use mathlib.Core.Bool.{true, false, cond}
 use mathlib.Core.List.{List, [], _∷_, _++_, append-assoc, append-nil}
 use Prim.Native.Nat.{ℕ, suc, _+_, _<_, _≤_}
+use native.Mathlib.Numerals.{one-add}
 use native.Mathlib.Omega.{arith}
 use borrow.Author.Tests.{lt-ltb, le-ltb}
 use lib.Dec.{ltb}
@@ -11,8 +12,8 @@ use Rattle.std.proofs.shelf.Lists.{append-cancel-left}
 use Rattle.std.specs.declared.option.Option.{Option}
 use Rattle.std.specs.declared.option.Option.the-variants.{Some, None}
 use Rattle.terms.specs.Term.{Kind, one, many, Tree, var, node, nil, cons, Term, Terms, how-many, size, Subst, sub}
-use Rattle.terms.specs.Prefix.{Arities, prefix, expand, image, WellSorted, Reads}
-use Rattle.terms.specs.Theorems.{Same-bytes-same-term, No-proper-beginning, Instance-byte-by-byte}
+use Rattle.terms.specs.Prefix.{Arities, prefix, expand, image, WellSorted, Reads, front, behind, put-before, terms-of, first-of, term-of}
+use Rattle.terms.specs.Theorems.{Same-bytes-same-term, No-proper-beginning, Bytes-read-as-their-term, Instance-byte-by-byte}
 
 -- the prefix form has one byte for each symbol and variable
 pub prefix-length : {k : Kind} (t : Tree k) → length (prefix t) ≡ size t
@@ -20,6 +21,11 @@ prefix-length (var x) = refl
 prefix-length (node f ts) = let h = prefix-length ts in omega arith
 prefix-length nil = refl
 prefix-length (cons t ts) = let a = prefix-length t in let b = prefix-length ts in simp length-append (omega arith)
+
+-- one list of terms behind another
+abbrev pub join : Terms → Terms → Terms
+join nil us = us
+join (cons t ts) us = cons t (join ts us)
 
 pub size-pos : (t : Term) → 0 < size t
 size-pos (var x) = omega arith
@@ -62,6 +68,39 @@ same-bytes-same-term sig m n bs t u a b =
 pub no-proper-beginning : No-proper-beginning
 no-proper-beginning sig m n bs more t u a b =
     terms-unique sig m n t u more [] (a .sorted) (b .sorted) (ap (λ w. w ++ more) (a .form) ∙ sym (b .form) ∙ sym (append-nil (prefix u))) .1
+
+-- ── the term that bytes read as ──
+
+front-all : (ts us : Terms) → front (how-many ts) (join ts us) ≡ ts
+front-all nil us = refl
+front-all (cons t ts) us = rw one-add (ap (cons t) (front-all ts us))
+
+behind-all : (ts us : Terms) → behind (how-many ts) (join ts us) ≡ us
+behind-all nil us = refl
+behind-all (cons t ts) us = rw one-add (behind-all ts us)
+
+module _ (sig : Arities) (n : ℕ) where
+  no-code : (x : ℕ) (ts : Terms) → 128 ≤ x → put-before x (cond (ltb x 128) (sig x) None) ts ≡ cons (var x) ts
+  no-code x ts h = ap (λ b. put-before x (cond b (sig x) None) ts) (le-ltb x 128 h)
+
+  code : (f m : ℕ) (ts : Terms) → f < 128 → sig f ≡ Some m → put-before f (cond (ltb f 128) (sig f) None) ts ≡ cons (node f (front m ts)) (behind m ts)
+  code f m ts h e = ap₂ (λ b a. put-before f (cond b a None) ts) (lt-ltb f 128 h) e
+
+  pub terms-of-prefix : (ts : Terms) (bs : List ℕ) → WellSorted sig n ts → terms-of sig (prefix ts ++ bs) ≡ join ts (terms-of sig bs)
+  terms-of-prefix nil bs w = refl
+  terms-of-prefix (cons (var x) ts) bs w =
+      no-code x (terms-of sig (prefix ts ++ bs)) (w .0 .0) ∙ ap (cons (var x)) (terms-of-prefix ts bs (w .1))
+  terms-of-prefix (cons (node f us) ts) bs w =
+      let rest : terms-of sig ((prefix us ++ prefix ts) ++ bs) ≡ join us (join ts (terms-of sig bs)) =
+          ap (terms-of sig) (append-assoc (prefix us) (prefix ts) bs) ∙ terms-of-prefix us (prefix ts ++ bs) (w .0 .2) ∙ ap (join us) (terms-of-prefix ts bs (w .1)) in
+      code f (how-many us) (terms-of sig ((prefix us ++ prefix ts) ++ bs)) (w .0 .0) (w .0 .1)
+      ∙ ap (λ vs. cons (node f (front (how-many us) vs)) (behind (how-many us) vs)) rest
+      ∙ ap₂ (λ a b. cons (node f a) b) (front-all us (join ts (terms-of sig bs))) (behind-all us (join ts (terms-of sig bs)))
+
+pub bytes-read-as-their-term : Bytes-read-as-their-term
+bytes-read-as-their-term sig n bs t r =
+    let form : prefix (cons t nil) ++ [] ≡ bs = append-nil (prefix t ++ []) ∙ append-nil (prefix t) ∙ r .form in
+    ap (term-of sig) (sym form) ∙ ap first-of (terms-of-prefix sig n (cons t nil) [] (r .sorted, tt))
 
 -- ── instances ──
 

@@ -14,7 +14,7 @@ use Rattle.std.specs.declared.option.Option.the-variants.{Some, None}
 use Rattle.terms.specs.Term.{Kind, one, many, Tree, var, node, nil, cons, Term, Terms, how-many, size}
 use Rattle.terms.specs.Prefix.{Arities, prefix, WellSorted, Reads, IsTerm, Begins, FirstTerm}
 use Rattle.terms.specs.Scan.{owes}
-use Rattle.terms.proofs.Reading.{prefix-length, size-pos}
+use Rattle.terms.proofs.Reading.{prefix-length, size-pos, join}
 
 -- a length, if there is one, with n more
 abbrev pub longer : ℕ → Option ℕ → Option ℕ
@@ -44,11 +44,6 @@ never e = let z : _≡_ {A = ℕ} 0 1 = cc in omega arith
 
 pub some-same : {m n : ℕ} → _≡_ {A = Option ℕ} (Some m) (Some n) → m ≡ n
 some-same e = cc
-
--- one list of terms behind another
-abbrev join : Terms → Terms → Terms
-join nil us = us
-join (cons t ts) us = cons t (join ts us)
 
 prefix-join : (ts us : Terms) → prefix (join ts us) ≡ prefix ts ++ prefix us
 prefix-join nil us = refl

@@ -2,12 +2,12 @@
 use mathlib.Core.Path.{_≡_}
 use mathlib.Core.Bool.{cond}
 use mathlib.Core.List.{List, [], _∷_, _++_}
-use Prim.Native.Nat.{ℕ, _+_, _<_, _≤_}
+use Prim.Native.Nat.{ℕ, zero, suc, _+_, _<_, _≤_}
 use lib.Dec.{ltb}
-use lib.ListN.{length, take, drop}
+use lib.ListN.{length}
 use Rattle.std.specs.declared.option.Option.{Option}
 use Rattle.std.specs.declared.option.Option.the-variants.{Some, None}
-use Rattle.terms.specs.Term.{Kind, Tree, var, node, nil, cons, Term, how-many, size, Subst}
+use Rattle.terms.specs.Term.{Kind, Tree, var, node, nil, cons, Term, Terms, how-many, size, Subst}
 
 -- a signature: the arity of each code that is a symbol's, and None for every other number
 abbrev pub Arities : Type 0
@@ -57,3 +57,34 @@ module _ (sig : Arities) (vars : ℕ) where
   abbrev pub FirstTerm : List ℕ → Option ℕ → Type 0
   FirstTerm bs (Some n) = (t : Term) × Begins bs t × (size t ≡ n)
   FirstTerm bs None = (t : Term) → Begins bs t → ⊥
+
+-- ── the term that bytes read as ──
+
+-- the first n of a list of terms, and those behind them
+abbrev pub front : ℕ → Terms → Terms
+front zero ts = nil
+front (suc n) nil = nil
+front (suc n) (cons t ts) = cons t (front n ts)
+
+abbrev pub behind : ℕ → Terms → Terms
+behind zero ts = ts
+behind (suc n) nil = nil
+behind (suc n) (cons t ts) = behind n ts
+
+-- one byte before some terms: a symbol's code takes as many of them as its arity says, any other byte is a variable
+abbrev pub put-before : ℕ → Option ℕ → Terms → Terms
+put-before b (Some n) ts = cons (node b (front n ts)) (behind n ts)
+put-before b None ts = cons (var b) ts
+
+-- the terms that bytes read as, from the last byte to the first
+abbrev pub terms-of : Arities → List ℕ → Terms
+terms-of sig [] = nil
+terms-of sig (b ∷ bs) = put-before b (cond (ltb b 128) (sig b) None) (terms-of sig bs)
+
+abbrev pub first-of : Terms → Term
+first-of nil = var 0
+first-of (cons t ts) = t
+
+-- the term t with the prefix form bs; of bytes that are no term it means nothing
+abbrev pub term-of : Arities → List ℕ → Term
+term-of sig bs = first-of (terms-of sig bs)

@@ -1,7 +1,9 @@
 -- First-order terms, substitutions, and rules.
 use mathlib.Core.Path.{_≡_}
 use mathlib.Core.Logic.{_⊎_}
+use mathlib.Core.List.{List}
 use Prim.Native.Nat.{ℕ, _+_}
+use lib.ListN.{getD}
 
 -- A term, and a list of terms as the arguments of a symbol, are one family over what is meant, so that
 -- a definition or a proof by recursion is written once for both.
@@ -72,3 +74,7 @@ after σ τ x = sub σ (τ x)
 pub record Rule : Type 0 where
   pub left : Term
   pub right : Term
+
+-- the rule with the number i, from 0; past the last rule it means nothing
+abbrev pub rule-at : List Rule → ℕ → Rule
+rule-at rs i = getD rs i (record { left = var 0; right = var 0 })

@@ -4,7 +4,7 @@ use mathlib.Core.List.{List, [], _++_}
 use Prim.Native.Nat.{ℕ, _+_, _<_}
 use lib.ListN.{take, drop}
 use Rattle.terms.specs.Term.{Kind, one, Tree, Term, Subst, sub, size}
-use Rattle.terms.specs.Prefix.{Arities, prefix, expand, image, WellSorted, Reads}
+use Rattle.terms.specs.Prefix.{Arities, prefix, expand, image, WellSorted, Reads, term-of}
 use Rattle.terms.specs.Place.{Context, plug, position, place, part, replace, PartAt}
 
 -- two terms of one signature with the same bytes are equal
@@ -15,6 +15,10 @@ Same-bytes-same-term = (sig : Arities) (m n : ℕ) (bs : List ℕ) (t u : Term) 
 abbrev pub No-proper-beginning : Type 0
 No-proper-beginning =
     (sig : Arities) (m n : ℕ) (bs more : List ℕ) (t u : Term) → Reads sig m bs t → Reads sig n (bs ++ more) u → more ≡ []
+
+-- bytes that are one term read as that term
+abbrev pub Bytes-read-as-their-term : Type 0
+Bytes-read-as-their-term = (sig : Arities) (n : ℕ) (bs : List ℕ) (t : Term) → Reads sig n bs t → term-of sig bs ≡ t
 
 -- the bytes of an instance are the images of the bytes, one after the other
 abbrev pub Instance-byte-by-byte : Type 0

@@ -1,5 +1,5 @@
 // Theorems on terms, their bytes and their places: each function does nothing, and its contract is what is proved.
-ghost use Rattle.terms.specs.Theorems.{Same-bytes-same-term, No-proper-beginning, Instance-byte-by-byte};
+ghost use Rattle.terms.specs.Theorems.{Same-bytes-same-term, No-proper-beginning, Bytes-read-as-their-term, Instance-byte-by-byte};
 ghost use Rattle.terms.specs.Theorems.{One-part-at-each-place, Parts-agree-with-contexts, Bytes-at-a-place, Position-tells-the-part};
 
 pub fn same_bytes_same_term()
@@ -9,6 +9,11 @@ pub fn same_bytes_same_term()
 
 pub fn no_proper_beginning()
     ensures { λ _. ⌜ No-proper-beginning ⌝ }
+{
+}
+
+pub fn bytes_read_as_their_term()
+    ensures { λ _. ⌜ Bytes-read-as-their-term ⌝ }
 {
 }
 

@@ -1,0 +1,4 @@
+pub mod Fields
+pub mod Sides
+pub mod Entering
+pub mod Progress

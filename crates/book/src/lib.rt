@@ -1,0 +1,7 @@
+// Rule books: their bytes are lent and read field by field, and never copied.
+pub mod book;
+pub mod fault;
+pub mod field;
+pub mod reader;
+pub mod shape;
+mod tables;
