@@ -45,6 +45,12 @@ module _ (t : ℕ) (l : Located) where
   tag-other [] e = ap (λ b. cond b (l ∷ []) []) e
   tag-other (m ∷ ls) e = ap (λ ms. cond (eqb (m .field .tag) t) (m ∷ ms) ms) (tag-other ls e)
 
+pub rules-push-same : (fs : List BookField) (f : BookField) → eqb (f .tag) 2 ≡ true → with-tag 2 (located 0 (fs ++ f ∷ [])) ≡ with-tag 2 (located 0 fs) ++ record { offset = length (book-bytes fs); field = f } ∷ []
+rules-push-same fs f e = ap (with-tag 2) (located-push-0 fs f) ∙ tag-same 2 (at-place (length (book-bytes fs)) f) (located 0 fs) e
+
+pub rules-push-other : (fs : List BookField) (f : BookField) → eqb (f .tag) 2 ≡ false → with-tag 2 (located 0 (fs ++ f ∷ [])) ≡ with-tag 2 (located 0 fs)
+rules-push-other fs f e = ap (with-tag 2) (located-push-0 fs f) ∙ tag-other 2 (at-place (length (book-bytes fs)) f) (located 0 fs) e
+
 -- ── where a symbol's arity stands ──
 
 never-none : {n : ℕ} → _≡_ {A = Option ℕ} (Some n) None → ⊥

@@ -23,7 +23,7 @@ use Rattle.book.specs.Questions.{Whole, FieldRead, AtEnd, NotRead, field-quest
 use Rattle.book.specs.Tables.{Tabled, Laid, Holds}
 use Rattle.book.specs.Views.{meant}
 use Rattle.book.specs.Kept.{TablesOf}
-use Rattle.book.proofs.Fields.{fields-back, bytes-back, few-fields}
+use Rattle.book.proofs.FieldBytes.{fields-back, bytes-back, few-fields}
 use Rattle.book.proofs.Entering.{good-push}
 
 -- the reader has come to `at`, and the tables are those of the fields before

@@ -5,4 +5,5 @@ pub mod Questions
 pub mod Tables
 pub mod Views
 pub mod Kept
+pub mod Queries
 pub mod Theorems

@@ -2,6 +2,7 @@
 pub mod book;
 pub mod fault;
 pub mod field;
+pub mod fields;
 pub mod reader;
 pub mod shape;
 mod tables;

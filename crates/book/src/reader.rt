@@ -28,6 +28,14 @@ impl<'a> Reader<'a> {
         Reader { bytes, at: 0 }
     }
 
+    // A reader at a place of the bytes.
+    pub(crate) fn at_place(bytes: &'a [u8], place: usize) -> Reader<'a>
+        requires { ⌜ place ≤ length (now bytes) ⌝ }
+        ensures { λ r. ⌜ (now (r .bytes) ≡ now (bytes .entry)) × (r .at ≡ place) ⌝ }
+    {
+        Reader { bytes, at: place }
+    }
+
     // The next field, or None at the end. Where what is left is no whole field, it is refused and the reader stays.
     pub fn next(&mut self) -> Result<Option<Field<'a>>, Fault>
         ensures bytes { λ _. ⌜ now (self .exit) .bytes .now ≡ now (self .entry) .bytes .now ⌝ }

@@ -2,3 +2,4 @@ pub mod Reading
 pub mod Places
 pub mod Scans
 pub mod Parts
+pub mod Sorts

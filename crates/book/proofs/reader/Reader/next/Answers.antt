@@ -3,7 +3,7 @@ use Prim.Native.Nat.{_+_, _*_, _≤_, _<_}
 use native.Mathlib.Omega.{arith}
 use lib.ListN.{length, getD, drop, length-drop}
 use Rattle.std.proofs.shelf.Lists.{drop-all}
-use Rattle.book.proofs.Fields.{length-there, field-there}
+use Rattle.book.proofs.FieldBytes.{length-there, field-there}
 use Rattle.book.proofs.reader.Reader.next.Needs as need
 
 pub returns-then-left-eq0 : need.returns-then-left-eq0
