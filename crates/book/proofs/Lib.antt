@@ -5,3 +5,5 @@ pub mod Progress
 pub mod Held
 pub mod RuleSides
 pub mod Walking
+pub mod Verdicts
+pub mod Samples

@@ -6,3 +6,4 @@ pub mod fields;
 pub mod reader;
 pub mod shape;
 mod tables;
+pub mod theorems;

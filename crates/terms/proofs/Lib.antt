@@ -3,3 +3,5 @@ pub mod Places
 pub mod Scans
 pub mod Parts
 pub mod Sorts
+pub mod Answers
+pub mod Samples

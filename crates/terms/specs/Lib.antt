@@ -4,3 +4,4 @@ pub mod Place
 pub mod Scan
 pub mod Question
 pub mod Theorems
+pub mod Examples

@@ -1,6 +1,13 @@
 // Theorems on terms, their bytes and their places: each function does nothing, and its contract is what is proved.
+ghost use Rattle.terms.specs.Examples.{Definitions-hold-and-fail};
 ghost use Rattle.terms.specs.Theorems.{Same-bytes-same-term, No-proper-beginning, Bytes-read-as-their-term, Instance-byte-by-byte};
 ghost use Rattle.terms.specs.Theorems.{One-part-at-each-place, Parts-agree-with-contexts, Bytes-at-a-place, Position-tells-the-part};
+
+// Each definition holds of something and fails of something.
+pub fn definitions_hold_and_fail()
+    ensures { λ _. ⌜ Definitions-hold-and-fail ⌝ }
+{
+}
 
 pub fn same_bytes_same_term()
     ensures { λ _. ⌜ Same-bytes-same-term ⌝ }

@@ -1,0 +1,5 @@
+use Rattle.terms.proofs.Samples.{definitions-hold-and-fail}
+use Rattle.terms.proofs.theorems.definitions_hold_and_fail.Needs as need
+
+pub returns : need.returns
+returns c = definitions-hold-and-fail
