@@ -1,0 +1,5 @@
+// Examples, run through the public calls.
+#[cfg(test)]
+mod books;
+#[cfg(test)]
+mod contents;
