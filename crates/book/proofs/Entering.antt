@@ -104,10 +104,10 @@ module _ (bs : List ℕ) (c : ℕ) (short : length bs ≤ book-limit) where
   arity-byte front at f more l e two =
       let inside : at + 4 < length bs = omega (arith, length-append front (field-bytes f ++ more), length-append (field-bytes f) more, ap length e) in
       let there : getD bs (at + 4) 0 ≡ arity f =
-          ap (λ w. getD w (at + 4) 0) (sym e)
-          ∙ ap (λ n. getD (front ++ (field-bytes f ++ more)) (n + 4) 0) (sym l)
-          ∙ getD-append-add front (field-bytes f ++ more) 4 0
-          ∙ second (f .value) two in
+      ap (λ w. getD w (at + 4) 0) (sym e)
+      ∙ ap (λ n. getD (front ++ (field-bytes f ++ more)) (n + 4) 0) (sym l)
+      ∙ getD-append-add front (field-bytes f ++ more) 4 0
+      ∙ second (f .value) two in
       ap₂ (λ b v. cond b (Some v) None) (lt-ltb (at + 4) (length bs) inside) there
     where
       second : (v : List ℕ) → length v ≡ 2 → getD (v ++ more) 1 0 ≡ getD v 1 0
@@ -220,9 +220,9 @@ module _ (arities : List ℕ) (symbols : ℕ) (rules : List ℕ) (count : ℕ) (
         arities-are = λ c h. t .arities-are c h ∙ sym (ap (λ ls. arity-place ls c) pushed ∙ arity-other c last (located 0 before) (declares-not c no-symbol));
         symbols-are = t .symbols-are ∙ ap length (sym (ap (with-tag 1) pushed ∙ tag-other 1 last (located 0 before) (not-eqb 1 no-symbol)));
         rules-are =
-          take-more-set rules count (length (book-bytes before)) room
-          ∙ ap (λ w. w ++ length (book-bytes before) ∷ []) (t .rules-are)
-          ∙ sym (ap (map (λ l. l .offset)) more ∙ map-append (λ l. l .offset) (with-tag 2 (located 0 before)) (last ∷ []));
+            take-more-set rules count (length (book-bytes before)) room
+            ∙ ap (λ w. w ++ length (book-bytes before) ∷ []) (t .rules-are)
+            ∙ sym (ap (map (λ l. l .offset)) more ∙ map-append (λ l. l .offset) (with-tag 2 (located 0 before)) (last ∷ []));
         count-is = omega (arith, t .count-is, ap length more, length-append (with-tag 2 (located 0 before)) (last ∷ []));
       }
 

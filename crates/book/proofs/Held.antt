@@ -92,7 +92,7 @@ nth tag at (f ∷ fs) i d h = by (eqb (f .tag) tag) refl i h (λ j k. nth tag (a
         }
 
     by : (b : Bool) → eqb (f .tag) tag ≡ b → (k : ℕ) → k < length (with-tag tag (located at (f ∷ fs))) → ((j : ℕ) → j < length (with-tag tag (located (at + length (field-bytes f)) fs)) → Nth tag (at + length (field-bytes f)) fs j d) → Nth tag at (f ∷ fs) k d
-    by true e zero l rest = 
+    by true e zero l rest =
         let o : at ≡ at + 0 = omega arith in
         record {
           pre = [];

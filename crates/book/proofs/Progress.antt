@@ -82,10 +82,10 @@ module _ (bs : List ℕ) (t : Tables) (at : ℕ) (p : Progress bs t at) where
       let byte : getD rest 2 0 < 256 = subst (λ v. v < 256) (sym (getD-drop at bs 2 0)) (small (at + 2)) in
       let split : field-bytes f ++ drop (3 + value-length rest) rest ≡ rest = ap (λ g. field-bytes g ++ drop (3 + value-length rest) rest) (r .field-is) ∙ bytes-back rest byte (r .whole) in
       let all : book-bytes (p .before ++ f ∷ []) ++ drop (3 + value-length rest) rest ≡ bs =
-          ap (λ w. w ++ drop (3 + value-length rest) rest) (book-bytes-push (p .before) f)
-          ∙ append-assoc (book-bytes (p .before)) (field-bytes f) (drop (3 + value-length rest) rest)
-          ∙ ap (λ w. book-bytes (p .before) ++ w) split
-          ∙ form in
+      ap (λ w. w ++ drop (3 + value-length rest) rest) (book-bytes-push (p .before) f)
+      ∙ append-assoc (book-bytes (p .before)) (field-bytes f) (drop (3 + value-length rest) rest)
+      ∙ ap (λ w. book-bytes (p .before) ++ w) split
+      ∙ form in
       let long : length (field-bytes f ++ drop (3 + value-length rest) rest) ≡ length rest = ap length split in
       record {
         before = p .before ++ f ∷ [];

@@ -73,11 +73,11 @@ module _ (bs arities : List ℕ) (symbols : ℕ) (rules : List ℕ) (count : ℕ
       let n = nth 2 0 fs i nothing-located counted in
       let f = n .field in
       let place : getD rules i 0 ≡ length (book-bytes (n .pre)) =
-          sym (getD-take count rules i 0 below)
-          ∙ ap (λ w. getD w i 0) (t .rules-are)
-          ∙ getD-map (λ l. l .offset) (with-tag 2 (located 0 fs)) i nothing-located 0 counted
-          ∙ ap (λ l. l .offset) (n .is)
-          ∙ omega arith in
+      sym (getD-take count rules i 0 below)
+      ∙ ap (λ w. getD w i 0) (t .rules-are)
+      ∙ getD-map (λ l. l .offset) (with-tag 2 (located 0 fs)) i nothing-located 0 counted
+      ∙ ap (λ l. l .offset) (n .is)
+      ∙ omega arith in
       let form : book-bytes (n .pre) ++ (field-bytes f ++ book-bytes (n .post)) ≡ bs = sym (book-bytes-append (n .pre) (f ∷ n .post)) ∙ ap book-bytes (sym (n .splits)) ∙ h .row in
       let passed = good-at [] (n .pre) (n .post) f (subst (Good []) (n .splits) (h .good)) in
       let sides = passed .1 .1 .1 .0 (n .tag-is) in

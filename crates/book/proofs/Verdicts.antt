@@ -52,11 +52,11 @@ same-refusal start [] (k ∷ gs) xs ys m n g h e a b =
 same-refusal start (f ∷ fs) (k ∷ gs) xs ys m n g h e a b =
     let same = same-first f k (book-bytes fs ++ xs) (book-bytes gs ++ ys) (sym (append-assoc (field-bytes f) (book-bytes fs) xs) ∙ e ∙ append-assoc (field-bytes k) (book-bytes gs) ys) in
     let r = same-refusal (start ++ k ∷ []) fs gs xs ys m n
-        (subst (λ j. Good (start ++ j ∷ []) fs) (same .0) (g .1))
-        (h .1)
-        (same .1)
-        (subst (λ w. FirstNo (questions w xs) m) (ap (λ j. start ++ (j ∷ fs)) (same .0) ∙ sym (append-assoc start (k ∷ []) fs)) a)
-        (subst (λ w. FirstNo (questions w ys) n) (sym (append-assoc start (k ∷ []) gs)) b) in
+    (subst (λ j. Good (start ++ j ∷ []) fs) (same .0) (g .1))
+    (h .1)
+    (same .1)
+    (subst (λ w. FirstNo (questions w xs) m) (ap (λ j. start ++ (j ∷ fs)) (same .0) ∙ sym (append-assoc start (k ∷ []) fs)) a)
+    (subst (λ w. FirstNo (questions w ys) n) (sym (append-assoc start (k ∷ []) gs)) b) in
     (r .0, ap₂ _∷_ (same .0) (r .1))
 
 pub one-verdict : One-verdict

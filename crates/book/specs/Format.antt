@@ -30,11 +30,11 @@ exactly n = record { least = n; most = n; step = 1 }
 
 abbrev pub shapes : List (ℕ × Shape)
 shapes =
-    (1, exactly 2)                                  -- symbol: code, arity
+    (1, exactly 2)  -- symbol: code, arity
     ∷ (2, record { least = 3; most = 65; step = 1 })  -- rule: length of the left side, left side, right side
     ∷ (3, record { least = 8; most = 57; step = 7 })  -- polynomial: code, 1 to 8 monomials of 7 bytes
-    ∷ (4, exactly 2)                                -- rank: code, rank
-    ∷ (5, record { least = 4; most = 260; step = 1 }) -- joining: i, p, j, number of outer steps, steps of 2 bytes
+    ∷ (4, exactly 2)  -- rank: code, rank
+    ∷ (5, record { least = 4; most = 260; step = 1 })  -- joining: i, p, j, number of outer steps, steps of 2 bytes
     ∷ []
 
 abbrev pub looked-up : ℕ → List (ℕ × Shape) → Option Shape

@@ -85,7 +85,7 @@ impl<'a> Book<'a> {
             (length (rules-of (now (self .entry) .tables .bytes .now)) ≤ i)
             (λ s. SidesOf (now (self .entry) .tables .bytes .now) i (now (s .left)) (now (s .right))) ⌝ }
     {
-        if i >= self.tables.count {
+        if i >= self.rule_count() {
             return None;
         }
         let place = self.tables.rules[i] as usize;

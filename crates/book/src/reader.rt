@@ -41,8 +41,8 @@ impl<'a> Reader<'a> {
         ensures bytes { λ _. ⌜ now (self .exit) .bytes .now ≡ now (self .entry) .bytes .now ⌝ }
         ensures answer { λ r. ⌜ Cases r
             (λ o. BySome o
-                (AtEnd (now (self .entry) .bytes .now) (now (self .entry) .at) (now (self .exit) .at))
-                (λ f. FieldRead (now (self .entry) .bytes .now) (now (self .entry) .at) (f .offset) (meant f) (now (self .exit) .at)))
+            (AtEnd (now (self .entry) .bytes .now) (now (self .entry) .at) (now (self .exit) .at))
+            (λ f. FieldRead (now (self .entry) .bytes .now) (now (self .entry) .at) (f .offset) (meant f) (now (self .exit) .at)))
             (λ e. NotRead (now (self .entry) .bytes .now) (now (self .entry) .at) e (now (self .exit) .at)) ⌝ }
     {
         let offset = self.at;

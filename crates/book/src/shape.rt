@@ -7,9 +7,13 @@ ghost use Rattle.std.specs.Orderings.{Decides};
 ghost use Rattle.book.specs.Format.{shape-of, FitsShape};
 
 pub const SYMBOL: u8 = 1;
+
 pub const RULE: u8 = 2;
+
 pub const POLYNOMIAL: u8 = 3;
+
 pub const RANK: u8 = 4;
+
 pub const JOINING: u8 = 5;
 
 // From the least length to the most, in steps.

@@ -120,9 +120,9 @@ impl<'a> Tables<'a> {
             → now (field .entry) .offset ≡ length (book-bytes before)
             → now (field .entry) .tag ≡ 1
             → Cases r
-                (λ _. SymbolFits before (meant (now (field .entry)))
-                × TablesOf (now (self .exit)) (before ++ meant (now (field .entry)) ∷ []))
-                (λ e. (SymbolFits before (meant (now (field .entry))) → ⊥) × (numberOf e ≡ 5) × (offsetOf e ≡ Some (now (field .entry) .offset)))) ⌝ }
+            (λ _. SymbolFits before (meant (now (field .entry)))
+            × TablesOf (now (self .exit)) (before ++ meant (now (field .entry)) ∷ []))
+            (λ e. (SymbolFits before (meant (now (field .entry))) → ⊥) × (numberOf e ≡ 5) × (offsetOf e ≡ Some (now (field .entry) .offset)))) ⌝ }
     {
         let code = field.value[0];
         let arity = field.value[1];
@@ -148,11 +148,11 @@ impl<'a> Tables<'a> {
             → now (field .entry) .offset ≡ length (book-bytes before)
             → now (field .entry) .tag ≡ 2
             → Cases r
-                (λ _. SidesFit (signature before) (meant (now (field .entry)))
-                × RoomForRule before
-                × TablesOf (now (self .exit)) (before ++ meant (now (field .entry)) ∷ []))
-                (λ e. (offsetOf e ≡ Some (now (field .entry) .offset))
-                × RuleRefused before (meant (now (field .entry))) (numberOf e))) ⌝ }
+            (λ _. SidesFit (signature before) (meant (now (field .entry)))
+            × RoomForRule before
+            × TablesOf (now (self .exit)) (before ++ meant (now (field .entry)) ∷ []))
+            (λ e. (offsetOf e ≡ Some (now (field .entry) .offset))
+            × RuleRefused before (meant (now (field .entry))) (numberOf e))) ⌝ }
     {
         if !self.has_sides(field) {
             return Err(Fault::BadRule(field.offset));
@@ -175,8 +175,8 @@ impl<'a> Tables<'a> {
             → TablesOf (now (self .entry)) before
             → now (field .entry) .offset ≡ length (book-bytes before)
             → Cases r
-                (λ _. AllYes (field-questions before (meant (now (field .entry)))) × TablesOf (now (self .exit)) (before ++ meant (now (field .entry)) ∷ []))
-                (λ e. (offsetOf e ≡ Some (now (field .entry) .offset)) × FirstNo (field-questions before (meant (now (field .entry)))) (numberOf e))) ⌝ }
+            (λ _. AllYes (field-questions before (meant (now (field .entry)))) × TablesOf (now (self .exit)) (before ++ meant (now (field .entry)) ∷ []))
+            (λ e. (offsetOf e ≡ Some (now (field .entry) .offset)) × FirstNo (field-questions before (meant (now (field .entry)))) (numberOf e))) ⌝ }
     {
         ask_shape(field)?;
         if field.tag == SYMBOL {

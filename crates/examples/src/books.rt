@@ -39,41 +39,49 @@ fn check_cases(cases: &[Case]) -> Result<(), Fail> {
 
 #[test]
 fn whole_fields_and_tags() -> Result<(), Fail> {
-    check_cases(&[
-        // the empty book
-        expect(b"", 0, 0),
-        // cut in the header, in the first field and behind a whole one
-        expect(b"\x01", 2, 0),
-        expect(b"\x01\x00", 2, 0),
-        expect(b"\x01\x00\x02\x01\x00\x01", 2, 5),
-        // cut in the value
-        expect(b"\x01\x00\x02\x01", 2, 0),
-        expect(b"\x01\x00\x02\x01\x00\x02\x00\x06\x03\x02\x02\x80\x02", 2, 5),
-        // a length of 256 by its high byte
-        expect(b"\x01\x01\x00\x01\x00", 2, 0),
-        // tags from 01 to 05
-        expect(b"\x00\x00\x00", 3, 0),
-        expect(b"\x06\x00\x00", 3, 0),
-        expect(b"\xFF\x00\x01\x00", 3, 0),
-        expect(b"\x01\x00\x02\x01\x00\x06\x00\x01\x00", 3, 5),
-        // a field that is not whole is asked for nothing else
-        expect(b"\x09\x00", 2, 0),
-    ])
+    check_cases(
+        &[
+            // the empty book
+            expect(b"", 0, 0),
+            // cut in the header, in the first field and behind a whole one
+            expect(b"\x01", 2, 0),
+            expect(b"\x01\x00", 2, 0),
+            expect(b"\x01\x00\x02\x01\x00\x01", 2, 5),
+            // cut in the value
+            expect(b"\x01\x00\x02\x01", 2, 0),
+            expect(
+                b"\x01\x00\x02\x01\x00\x02\x00\x06\x03\x02\x02\x80\x02",
+                2,
+                5,
+            ),
+            // a length of 256 by its high byte
+            expect(b"\x01\x01\x00\x01\x00", 2, 0),
+            // tags from 01 to 05
+            expect(b"\x00\x00\x00", 3, 0),
+            expect(b"\x06\x00\x00", 3, 0),
+            expect(b"\xFF\x00\x01\x00", 3, 0),
+            expect(b"\x01\x00\x02\x01\x00\x06\x00\x01\x00", 3, 5),
+            // a field that is not whole is asked for nothing else
+            expect(b"\x09\x00", 2, 0),
+        ],
+    )
 }
 
 #[test]
 fn lengths_of_values(rt: LibcRuntime) -> Result<(), Fail> {
-    check_cases(&[
-        // a symbol and a rank have two bytes
-        expect(b"\x01\x00\x01\x01", 4, 0),
-        expect(b"\x01\x00\x03\x01\x00\x00", 4, 0),
-        expect(b"\x04\x00\x01\x01", 4, 0),
-        expect(b"\x04\x00\x02\x01\x07", 0, 0),
-        expect(b"\x04\x00\x03\x01\x07\x00", 4, 0),
-        // a rule has three bytes at least
-        expect(b"\x02\x00\x02\x01\x80", 4, 0),
-        expect(b"\x02\x00\x03\x01\x80\x80", 0, 0),
-    ])?;
+    check_cases(
+        &[
+            // a symbol and a rank have two bytes
+            expect(b"\x01\x00\x01\x01", 4, 0),
+            expect(b"\x01\x00\x03\x01\x00\x00", 4, 0),
+            expect(b"\x04\x00\x01\x01", 4, 0),
+            expect(b"\x04\x00\x02\x01\x07", 0, 0),
+            expect(b"\x04\x00\x03\x01\x07\x00", 4, 0),
+            // a rule has three bytes at least
+            expect(b"\x02\x00\x02\x01\x80", 4, 0),
+            expect(b"\x02\x00\x03\x01\x80\x80", 0, 0),
+        ],
+    )?;
     // from the least to the most, in steps
     check_shape(&rt, 2, 65, 6)?;
     check_shape(&rt, 2, 66, 4)?;
@@ -109,39 +117,59 @@ fn check_shape(rt: &LibcRuntime, tag: u8, length: u16, number: u8) -> Result<(),
 
 #[test]
 fn symbols() -> Result<(), Fail> {
-    check_cases(&[
-        expect(b"\x01\x00\x02\x01\x00", 0, 0),
-        expect(b"\x01\x00\x02\x7F\x03", 0, 0),
-        expect(b"\x01\x00\x02\x00\x00", 5, 0),
-        expect(b"\x01\x00\x02\x80\x00", 5, 0),
-        expect(b"\x01\x00\x02\xFF\x00", 5, 0),
-        expect(b"\x01\x00\x02\x01\x04", 5, 0),
-        // declared before, with the same arity and with another
-        expect(b"\x01\x00\x02\x01\x00\x01\x00\x02\x01\x00", 5, 5),
-        expect(b"\x01\x00\x02\x01\x00\x01\x00\x02\x02\x01\x01\x00\x02\x01\x02", 5, 10),
-    ])
+    check_cases(
+        &[
+            expect(b"\x01\x00\x02\x01\x00", 0, 0),
+            expect(b"\x01\x00\x02\x7F\x03", 0, 0),
+            expect(b"\x01\x00\x02\x00\x00", 5, 0),
+            expect(b"\x01\x00\x02\x80\x00", 5, 0),
+            expect(b"\x01\x00\x02\xFF\x00", 5, 0),
+            expect(b"\x01\x00\x02\x01\x04", 5, 0),
+            // declared before, with the same arity and with another
+            expect(b"\x01\x00\x02\x01\x00\x01\x00\x02\x01\x00", 5, 5),
+            expect(
+                b"\x01\x00\x02\x01\x00\x01\x00\x02\x02\x01\x01\x00\x02\x01\x02",
+                5,
+                10,
+            ),
+        ],
+    )
 }
 
 #[test]
 fn rules() -> Result<(), Fail> {
-    check_cases(&[
-        // f(f(x)) to f(x), with f declared before the rule, and after it
-        expect(b"\x01\x00\x02\x02\x01\x02\x00\x06\x03\x02\x02\x80\x02\x80", 0, 0),
-        expect(b"\x02\x00\x06\x03\x02\x02\x80\x02\x80\x01\x00\x02\x02\x01", 6, 0),
-        // a left side of no bytes, one that goes beyond the value, and one that leaves none for the right side
-        expect(b"\x02\x00\x03\x00\x80\x80", 6, 0),
-        expect(b"\x02\x00\x03\x05\x80\x80", 6, 0),
-        expect(b"\x02\x00\x03\x02\x80\x80", 6, 0),
-        // the variables are 80 to 83
-        expect(b"\x02\x00\x03\x01\x83\x80", 0, 0),
-        expect(b"\x02\x00\x03\x01\x84\x80", 6, 0),
-        expect(b"\x02\x00\x03\x01\x80\x84", 6, 0),
-        // a side that is two terms, and one that lacks an argument
-        expect(b"\x01\x00\x02\x02\x01\x02\x00\x05\x03\x02\x80\x80\x80", 6, 5),
-        expect(b"\x01\x00\x02\x02\x01\x02\x00\x04\x02\x02\x02\x80", 6, 5),
-        // an undeclared symbol
-        expect(b"\x01\x00\x02\x02\x01\x02\x00\x04\x02\x02\x80\x03", 6, 5),
-    ])
+    check_cases(
+        &[
+            // f(f(x)) to f(x), with f declared before the rule, and after it
+            expect(
+                b"\x01\x00\x02\x02\x01\x02\x00\x06\x03\x02\x02\x80\x02\x80",
+                0,
+                0,
+            ),
+            expect(
+                b"\x02\x00\x06\x03\x02\x02\x80\x02\x80\x01\x00\x02\x02\x01",
+                6,
+                0,
+            ),
+            // a left side of no bytes, one that goes beyond the value, and one that leaves none for the right side
+            expect(b"\x02\x00\x03\x00\x80\x80", 6, 0),
+            expect(b"\x02\x00\x03\x05\x80\x80", 6, 0),
+            expect(b"\x02\x00\x03\x02\x80\x80", 6, 0),
+            // the variables are 80 to 83
+            expect(b"\x02\x00\x03\x01\x83\x80", 0, 0),
+            expect(b"\x02\x00\x03\x01\x84\x80", 6, 0),
+            expect(b"\x02\x00\x03\x01\x80\x84", 6, 0),
+            // a side that is two terms, and one that lacks an argument
+            expect(
+                b"\x01\x00\x02\x02\x01\x02\x00\x05\x03\x02\x80\x80\x80",
+                6,
+                5,
+            ),
+            expect(b"\x01\x00\x02\x02\x01\x02\x00\x04\x02\x02\x02\x80", 6, 5),
+            // an undeclared symbol
+            expect(b"\x01\x00\x02\x02\x01\x02\x00\x04\x02\x02\x80\x03", 6, 5),
+        ],
+    )
 }
 
 // The symbol f of one argument, and a rule with f repeated on both sides: so many bytes a side.
@@ -168,12 +196,14 @@ fn sides_of_32_and_33_bytes(rt: LibcRuntime) -> Result<(), Fail> {
     let long = towers(rt.alloc(), 33, 1)?;
     let both = towers(rt.alloc(), 32, 32)?;
     let right = towers(rt.alloc(), 31, 33)?;
-    check_cases(&[
-        expect(short.as_slice(), 0, 0),
-        expect(long.as_slice(), 6, 5),
-        expect(both.as_slice(), 0, 0),
-        expect(right.as_slice(), 6, 5),
-    ])
+    check_cases(
+        &[
+            expect(short.as_slice(), 0, 0),
+            expect(long.as_slice(), 6, 5),
+            expect(both.as_slice(), 0, 0),
+            expect(right.as_slice(), 6, 5),
+        ],
+    )
 }
 
 #[test]
@@ -188,7 +218,12 @@ fn rules_32_and_33(rt: LibcRuntime) -> Result<(), Fail> {
     // a 33rd rule that is no rule is refused as such
     let mut worse = bytes.clone()?;
     worse.extend_from_slice(b"\x02\x00\x03\x01\x80\x84")?;
-    check_cases(&[expect(more.as_slice(), 7, 192), expect(worse.as_slice(), 6, 192)])
+    check_cases(
+        &[
+            expect(more.as_slice(), 7, 192),
+            expect(worse.as_slice(), 6, 192),
+        ],
+    )
 }
 
 // Fifteen joining fields of 263 bytes, and one of the length that is given and three bytes more.

@@ -85,8 +85,7 @@ module _ (sig : Arities) (n : ℕ) where
         let s = first .0 in
         let b = first .1 in
         let long : (p + m) - p ≡ size s = omega (arith, first .2) in
-        let is : prefix s ≡ found = sym (take-at (prefix s) (b .rest) (size s) (prefix-length s)) ∙ ap₂ take (sym long) (b .form) ∙ sym e in
-        (
+        let is : prefix s ≡ found = sym (take-at (prefix s) (b .rest) (size s) (prefix-length s)) ∙ ap₂ take (sym long) (b .form) ∙ sym e in (
           (s, b, is),
           λ t r l. ap {B = Option (List ℕ)} Some (sym is ∙ ap prefix (begins-unique (drop p bs) s (part t p) b (part-begins bs t p r l))),
         )

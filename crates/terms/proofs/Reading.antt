@@ -92,7 +92,7 @@ module _ (sig : Arities) (n : ℕ) where
       no-code x (terms-of sig (prefix ts ++ bs)) (w .0 .0) ∙ ap (cons (var x)) (terms-of-prefix ts bs (w .1))
   terms-of-prefix (cons (node f us) ts) bs w =
       let rest : terms-of sig ((prefix us ++ prefix ts) ++ bs) ≡ join us (join ts (terms-of sig bs)) =
-          ap (terms-of sig) (append-assoc (prefix us) (prefix ts) bs) ∙ terms-of-prefix us (prefix ts ++ bs) (w .0 .2) ∙ ap (join us) (terms-of-prefix ts bs (w .1)) in
+      ap (terms-of sig) (append-assoc (prefix us) (prefix ts) bs) ∙ terms-of-prefix us (prefix ts ++ bs) (w .0 .2) ∙ ap (join us) (terms-of-prefix ts bs (w .1)) in
       code f (how-many us) (terms-of sig ((prefix us ++ prefix ts) ++ bs)) (w .0 .0) (w .0 .1)
       ∙ ap (λ vs. cons (node f (front (how-many us) vs)) (behind (how-many us) vs)) rest
       ∙ ap₂ (λ a b. cons (node f a) b) (front-all us (join ts (terms-of sig bs))) (behind-all us (join ts (terms-of sig bs)))

@@ -67,7 +67,12 @@ pub fn is_term<S: Signature>(signature: &S, variables: u8, bytes: &[u8]) -> bool
 }
 
 // The part at a place: the bytes of the term that begins there, or None if none does.
-pub fn part_at<'a, S: Signature>(signature: &S, variables: u8, bytes: &'a [u8], place: usize) -> Option<&'a [u8]>
+pub fn part_at<'a, S: Signature>(
+    signature: &S,
+    variables: u8,
+    bytes: &'a [u8],
+    place: usize,
+) -> Option<&'a [u8]>
     ensures any { λ r. ⌜ TermAt (S·Signature .arities (now (signature .entry))) variables (now (bytes .entry)) place (mapped now r) ⌝ }
     ensures part { λ r. ⌜ PartOfTerm (S·Signature .arities (now (signature .entry))) variables (now (bytes .entry)) place (mapped now r) ⌝ }
 {

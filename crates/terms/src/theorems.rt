@@ -6,45 +6,36 @@ ghost use Rattle.terms.specs.Theorems.{One-part-at-each-place, Parts-agree-wit
 // Each definition holds of something and fails of something.
 pub fn definitions_hold_and_fail()
     ensures { λ _. ⌜ Definitions-hold-and-fail ⌝ }
-{
-}
+{}
 
 pub fn same_bytes_same_term()
     ensures { λ _. ⌜ Same-bytes-same-term ⌝ }
-{
-}
+{}
 
 pub fn no_proper_beginning()
     ensures { λ _. ⌜ No-proper-beginning ⌝ }
-{
-}
+{}
 
 pub fn bytes_read_as_their_term()
     ensures { λ _. ⌜ Bytes-read-as-their-term ⌝ }
-{
-}
+{}
 
 pub fn instance_byte_by_byte()
     ensures { λ _. ⌜ Instance-byte-by-byte ⌝ }
-{
-}
+{}
 
 pub fn one_part_at_each_place()
     ensures { λ _. ⌜ One-part-at-each-place ⌝ }
-{
-}
+{}
 
 pub fn parts_agree_with_contexts()
     ensures { λ _. ⌜ Parts-agree-with-contexts ⌝ }
-{
-}
+{}
 
 pub fn bytes_at_a_place()
     ensures { λ _. ⌜ Bytes-at-a-place ⌝ }
-{
-}
+{}
 
 pub fn position_tells_the_part()
     ensures { λ _. ⌜ Position-tells-the-part ⌝ }
-{
-}
+{}

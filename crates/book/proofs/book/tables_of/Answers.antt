@@ -27,8 +27,7 @@ loop-field-again c =
     let p = c .loop-field .inv .1 in
     let r = field-came (c .args .bytes .now) (c .loop-field .reader .bytes .now) (c .loop-field .inv .0) _ _ (c .in-Continue-field .field-0) (c .in-Continue-field .ensures tt .answer) (c .in-Some .field) (c .in-Some .is) in
     let small : (i : ℕ) → getD (c .args .bytes .now) i 0 < 256 = λ i. omega (arith, c .typed .bytes i) in
-    let entered = c .in-Continue-enter .ensures tt .answer (p .before) (laid-here _ _ _ p) (p .tables) (r .offset-is ∙ p .reached) in
-    (
+    let entered = c .in-Continue-enter .ensures tt .answer (p .before) (laid-here _ _ _ p) (p .tables) (r .offset-is ∙ p .reached) in (
       c .next .ensures .bytes ∙ c .loop-field .inv .0,
       progress-more _ _ _ p small (c .in-Some .field .offset) (meant (c .in-Some .field)) (c .next .last .self .at) r (entered .0) (c .enter .last .self) (entered .1) (ap (λ b. b .now) (c .enter .ensures .bytes) ∙ p .bytes-are),
     )

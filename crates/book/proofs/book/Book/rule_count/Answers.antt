@@ -4,8 +4,7 @@ use Rattle.book.proofs.book.Book.rule_count.Needs as need
 pub returns : need.returns
 returns c =
     let t = c .args .self .now .tables in
-    let held = c .args .self .now .holds in
-    (
+    let held = c .args .self .now .holds in (
       held-count (t .bytes .now) (t .arities) (t .symbols) (t .rules) (t .count) held,
       held-few (t .bytes .now) (t .arities) (t .symbols) (t .rules) (t .count) held,
     )

@@ -46,8 +46,7 @@ loop-next-again c =
     let same = c .loop-next .inv .0 in
     let row = subst (λ w. Row (drop at w)) same (c .loop-next .self .row) in
     let f = c .in-Some .field in
-    let came = field-came bs (c .loop-next .self .reader .bytes .now) same _ _ (c .in-Ok .next) (c .in-Ok .ensures tt .answer) f (c .in-Some .is) in
-    (
+    let came = field-came bs (c .loop-next .self .reader .bytes .now) same _ _ (c .in-Ok .next) (c .in-Ok .ensures tt .answer) f (c .in-Some .is) in (
       c .next .ensures .bytes ∙ same,
       c .loop-next .inv .1,
       c .loop-next .inv .2 ∙ passed-over bs at row (f .offset) (meant f) _ came (c .args .self .now .tag) (λ e. c .if-field-self .left (e ∙ sym (c .loop-next .inv .1))),

@@ -35,11 +35,10 @@ pub returns : need.returns
 returns c = record {
   bytes = refl;
   answer = λ before laid tabled o t.
-    let f = meant (c .args .field .now) in
-    let room : c .args .self .now .count < length (c .args .self .now .rules) = omega arith in
-    (
-      sides-before _ _ _ _ _ before laid tabled f (c .has-sides .ensures .0 (c .if-not-has-sides .left)),
-      omega (arith, tabled .count-is),
-      subst (λ p. Tabled (c .args .self .now .arities) (c .args .self .now .symbols) (set (c .args .self .now .rules) (c .args .self .now .count) p) (c .args .self .now .count + 1) (before ++ f ∷ [])) (sym o) (rule-push _ _ _ _ before tabled f t room),
-    );
+      let f = meant (c .args .field .now) in
+      let room : c .args .self .now .count < length (c .args .self .now .rules) = omega arith in (
+        sides-before _ _ _ _ _ before laid tabled f (c .has-sides .ensures .0 (c .if-not-has-sides .left)),
+        omega (arith, tabled .count-is),
+        subst (λ p. Tabled (c .args .self .now .arities) (c .args .self .now .symbols) (set (c .args .self .now .rules) (c .args .self .now .count) p) (c .args .self .now .count + 1) (before ++ f ∷ [])) (sym o) (rule-push _ _ _ _ before tabled f t room),
+      );
 }

@@ -24,16 +24,15 @@ pub returns : need.returns
 returns c = record {
   bytes = refl;
   answer = λ before laid tabled o t.
-    let f = meant (c .args .field .now) in
-    let fits : SymbolFits before f = record {
-      least = omega arith;
-      most = omega arith;
-      new = new-symbol _ _ _ _ _ before laid tabled f (ap isSome (sym (c .arity .ensures)) ∙ sym (c .is-some .ensures) ∙ c .if-is-some .left);
-      few = omega arith;
-    } in
-    let long : length (c .args .self .now .arities) ≡ 128 = omega arith in
-    (
-      fits,
-      subst (λ p. Tabled (set (c .args .self .now .arities) (getD (c .args .field .now .value .now) 0 0) (p + 4)) (c .args .self .now .symbols + 1) (c .args .self .now .rules) (c .args .self .now .count) (before ++ f ∷ [])) (sym o) (symbol-push _ _ _ _ before tabled f t fits long),
-    );
+      let f = meant (c .args .field .now) in
+      let fits : SymbolFits before f = record {
+        least = omega arith;
+        most = omega arith;
+        new = new-symbol _ _ _ _ _ before laid tabled f (ap isSome (sym (c .arity .ensures)) ∙ sym (c .is-some .ensures) ∙ c .if-is-some .left);
+        few = omega arith;
+      } in
+      let long : length (c .args .self .now .arities) ≡ 128 = omega arith in (
+        fits,
+        subst (λ p. Tabled (set (c .args .self .now .arities) (getD (c .args .field .now .value .now) 0 0) (p + 4)) (c .args .self .now .symbols + 1) (c .args .self .now .rules) (c .args .self .now .count) (before ++ f ∷ [])) (sym o) (symbol-push _ _ _ _ before tabled f t fits long),
+      );
 }

@@ -30,20 +30,20 @@ returns-else-is-side c =
     let left : c .is-side .result ≡ false = c .if-is-side .left in (
       (λ t. absurd (never (cc))),
       (λ s. absurd (no-left
-      (arity-in (c .args .self .now .bytes .now) (c .args .self .now .arities))
-      (book-field (c .args .field .now .tag) (c .args .field .now .value .now))
-      (c .in-Some .sides .left .now)
-      (found .1)
-      (λ l. let y = c .is-side .ensures .1 l in never (cc))
-      s)),
+          (arity-in (c .args .self .now .bytes .now) (c .args .self .now .arities))
+          (book-field (c .args .field .now .tag) (c .args .field .now .value .now))
+          (c .in-Some .sides .left .now)
+          (found .1)
+          (λ l. let y = c .is-side .ensures .1 l in never (cc))
+          s)),
     )
 
 pub returns-in-None : need.returns-in-None
 returns-in-None c = (
   (λ t. absurd (never t)),
   (λ s. absurd (no-right
-  (arity-in (c .args .self .now .bytes .now) (c .args .self .now .arities))
-  (book-field (c .args .field .now .tag) (c .args .field .now .value .now))
-  (c .in-None .ensures tt)
-  s)),
+      (arity-in (c .args .self .now .bytes .now) (c .args .self .now .arities))
+      (book-field (c .args .field .now .tag) (c .args .field .now .value .now))
+      (c .in-None .ensures tt)
+      s)),
 )
