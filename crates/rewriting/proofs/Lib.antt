@@ -1,0 +1,14 @@
+pub mod Abstract
+pub mod Substitution
+pub mod Closure
+pub mod CriticalPairs
+pub mod Unification
+pub mod Matching
+pub mod Numbering
+pub mod Pairs
+pub mod Sorted
+pub mod Innermost
+pub mod Termination
+pub mod Listing
+pub mod Statements
+pub mod Samples
