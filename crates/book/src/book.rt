@@ -23,7 +23,7 @@ use terms::prefix::Signature;
 const BOOK_LIMIT: usize = 4096;
 
 // A book that was read, or the empty one. It is known by its bytes: what it answers is what they mean.
-#[derive(Drop)]
+#[derive(Clone, Copy)]
 pub struct Book<'a> {
     tables: Tables<'a>,
     ghost holds: { ∥ Holds (tables .bytes .now) (tables .arities) (tables .symbols) (tables .rules) (tables .count) ∥₁ },
@@ -63,6 +63,14 @@ impl<'a> Book<'a> {
     {
         self.tables = tables_of(bytes)?;
         Ok(())
+    }
+
+    // The book's bytes, as they were lent.
+    pub fn bytes(&self) -> &'a [u8]
+        ensures { λ r. ⌜ now r ≡ now (self .entry) .tables .bytes .now ⌝ }
+    {
+        let tables = self.tables;
+        tables.bytes
     }
 
     // How many symbols the book declares.

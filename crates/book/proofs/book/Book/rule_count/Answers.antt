@@ -1,3 +1,4 @@
+use native.Mathlib.Omega.{arith}
 use Rattle.book.proofs.Held.{held-count, held-few}
 use Rattle.book.proofs.book.Book.rule_count.Needs as need
 
@@ -5,6 +6,6 @@ pub returns : need.returns
 returns c =
     let t = c .args .self .now .tables in
     let held = c .args .self .now .holds in (
-      held-count (t .bytes .now) (t .arities) (t .symbols) (t .rules) (t .count) held,
-      held-few (t .bytes .now) (t .arities) (t .symbols) (t .rules) (t .count) held,
+      omega (arith, held-count (t .bytes .now) (t .arities) (t .symbols) (t .rules) (t .count) held),
+      omega (arith, held-few (t .bytes .now) (t .arities) (t .symbols) (t .rules) (t .count) held),
     )
