@@ -5,5 +5,6 @@ pub mod field;
 pub mod fields;
 pub mod reader;
 pub mod shape;
+pub mod side;
 mod tables;
 pub mod theorems;

@@ -9,7 +9,7 @@ ghost use Rattle.std.specs.declared.option.Option.the-variants.{Some};
 ghost use Rattle.terms.specs.Question.{AllYes, FirstNo};
 ghost use Rattle.book.specs.Format.{BookField, book-bytes};
 ghost use Rattle.book.specs.Faults.{numberOf, offsetOf};
-ghost use Rattle.book.specs.Questions.{TagKnown, LengthFits, SymbolFits, IsSide, SidesFit, RoomForRule, field-questions, FieldRead};
+ghost use Rattle.book.specs.Questions.{TagKnown, LengthFits, SymbolFits, SidesFit, RoomForRule, field-questions, FieldRead};
 ghost use Rattle.book.specs.Meaning.{signature};
 ghost use Rattle.book.specs.Tables.{Laid, RuleRefused};
 ghost use Rattle.book.specs.Views.{meant};
@@ -19,16 +19,10 @@ use crate::field::Field;
 use crate::shape::RULE;
 use crate::shape::SYMBOL;
 use crate::shape::Shape;
+use crate::side::is_side;
 use terms::prefix::Signature;
-use terms::prefix::is_term;
-
-// The bytes of the longest side of a rule.
-const SIDE_LIMIT: usize = 32;
 
 const RULE_LIMIT: usize = 32;
-
-// Rules have the variables 80 to 83.
-const RULE_VARIABLES: u8 = 4;
 
 // No byte of a book stands there.
 const NOWHERE: u16 = 4096;
@@ -91,19 +85,12 @@ impl<'a> Tables<'a> {
         }
     }
 
-    // Whether the bytes are a side of a rule of the symbols so far.
-    fn is_side(&self, bytes: &[u8]) -> bool
-        ensures { λ r. ⌜ Decides r (IsSide (kept-signature (now (self .entry))) (now (bytes .entry))) ⌝ }
-    {
-        bytes.len() <= SIDE_LIMIT && is_term(self, RULE_VARIABLES, bytes)
-    }
-
     // Whether the field has two sides of a rule.
     fn has_sides(&self, field: &Field<'a>) -> bool
         ensures { λ r. ⌜ Decides r (SidesFit (kept-signature (now (self .entry))) (meant (now (field .entry)))) ⌝ }
     {
         match field.sides() {
-            Some(sides) => self.is_side(sides.left) && self.is_side(sides.right),
+            Some(sides) => is_side(self, sides.left) && is_side(self, sides.right),
             None => false,
         }
     }

@@ -1,0 +1,5 @@
+pub mod PathEnds
+pub mod PathStrict
+pub mod Testing
+pub mod PathLaws
+pub mod PathSteps

@@ -1,0 +1,4 @@
+pub mod Path
+pub mod Grade
+pub mod Laws
+pub mod Theorems

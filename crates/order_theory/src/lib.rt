@@ -1,0 +1,2 @@
+// Theorems on orders.
+pub mod theorems;

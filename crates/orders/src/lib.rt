@@ -1,0 +1,4 @@
+// Orders on terms.
+mod comparing;
+pub mod order;
+pub mod path;
