@@ -3,3 +3,4 @@ pub mod PathStrict
 pub mod Testing
 pub mod PathLaws
 pub mod PathSteps
+pub mod Fences

@@ -1,5 +1,6 @@
-// Theorems on the path order: each function does nothing, and its contract is what is proved.
+// Theorems on orders: each function does nothing, and its contract is what is proved.
 ghost use Rattle.order_theory.specs.Theorems.{Path-order-in-words, Path-order-is-strict, Path-order-keeps-the-laws};
+ghost use Rattle.order_theory.specs.Fence.{Fence-in-words};
 
 pub fn path_order_in_words()
     ensures { λ _. ⌜ Path-order-in-words ⌝ }
@@ -11,4 +12,8 @@ pub fn path_order_is_strict()
 
 pub fn path_order_keeps_the_laws()
     ensures { λ _. ⌜ Path-order-keeps-the-laws ⌝ }
+{}
+
+pub fn fence_in_words()
+    ensures { λ _. ⌜ Fence-in-words ⌝ }
 {}
