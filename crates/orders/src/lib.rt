@@ -1,4 +1,5 @@
 // Orders on terms.
 mod comparing;
+pub mod fence;
 pub mod order;
 pub mod path;
