@@ -100,7 +100,7 @@ high-none c (f ∷ fs) s h = by (eqb (f .tag) 1) (eqb (code f) c) refl refl (hig
 
 module _ (bs : List ℕ) (c : ℕ) (short : length bs ≤ book-limit) where
   -- the arity of a symbol is the fifth byte of its field
-  arity-byte : (front : List ℕ) (at : ℕ) (f : BookField) (more : List ℕ) → length front ≡ at → front ++ (field-bytes f ++ more) ≡ bs → length (f .value) ≡ 2 → byte-at bs (at + 4) ≡ Some (arity f)
+  pub arity-byte : (front : List ℕ) (at : ℕ) (f : BookField) (more : List ℕ) → length front ≡ at → front ++ (field-bytes f ++ more) ≡ bs → length (f .value) ≡ 2 → byte-at bs (at + 4) ≡ Some (arity f)
   arity-byte front at f more l e two =
       let inside : at + 4 < length bs = omega (arith, length-append front (field-bytes f ++ more), length-append (field-bytes f) more, ap length e) in
       let there : getD bs (at + 4) 0 ≡ arity f =

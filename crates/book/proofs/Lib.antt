@@ -7,3 +7,4 @@ pub mod RuleSides
 pub mod Walking
 pub mod Verdicts
 pub mod Samples
+pub mod Pairs

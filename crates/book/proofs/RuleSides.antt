@@ -27,12 +27,12 @@ use Rattle.book.specs.Tables.{Holds}
 use Rattle.book.proofs.FieldBytes.{length-back, field-back}
 use Rattle.book.proofs.Held.{Nth, nth, held-count}
 
-book-bytes-append : (fs gs : List BookField) → book-bytes (fs ++ gs) ≡ book-bytes fs ++ book-bytes gs
+pub book-bytes-append : (fs gs : List BookField) → book-bytes (fs ++ gs) ≡ book-bytes fs ++ book-bytes gs
 book-bytes-append [] gs = refl
 book-bytes-append (f ∷ fs) gs = ap (λ w. field-bytes f ++ w) (book-bytes-append fs gs) ∙ sym (append-assoc (field-bytes f) (book-bytes fs) (book-bytes gs))
 
 -- a field in the middle has passed its questions
-good-at : (before pre post : List BookField) (f : BookField) → Good before (pre ++ f ∷ post) → AllYes (field-questions (before ++ pre) f)
+pub good-at : (before pre post : List BookField) (f : BookField) → Good before (pre ++ f ∷ post) → AllYes (field-questions (before ++ pre) f)
 good-at before [] post f g = subst (λ w. AllYes (field-questions w f)) (sym (append-nil before)) (g .0)
 good-at before (h ∷ pre) post f g = subst (λ w. AllYes (field-questions w f)) (append-assoc before (h ∷ []) pre) (good-at (before ++ h ∷ []) pre post f (g .1))
 

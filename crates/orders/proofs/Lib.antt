@@ -1,1 +1,2 @@
 pub mod PathBytes
+pub mod Placing

@@ -1,1 +1,3 @@
+pub mod Figures
 pub mod Ranks
+pub mod PathFaults

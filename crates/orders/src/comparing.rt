@@ -29,6 +29,9 @@ impl<'a> Path<'a> {
         }
         let bytes = self.book.bytes();
         let place = self.ranks[code as usize] as usize;
+        if place == 0 {
+            return 0;
+        }
         if place >= bytes.len() {
             return 0;
         }

@@ -3,3 +3,5 @@ mod comparing;
 pub mod fence;
 pub mod order;
 pub mod path;
+pub mod path_fault;
+mod ranks;
