@@ -3,3 +3,4 @@
 mod books;
 #[cfg(test)]
 mod contents;
+mod doubling;

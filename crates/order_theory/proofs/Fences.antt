@@ -172,6 +172,15 @@ fence-in-words sig grade bs cs s t p q =
         by (inl e) = absurd (n e)
         by (inr e) = e
 
+-- a pair of grade 0 is proper
+pub zero-is-proper : (sig : Arities) (grade : List ℕ → List ℕ → ℕ) (bs cs : List ℕ) (s t : Term) → Reads sig 4 bs s → Reads sig 4 cs t → fence-grade grade bs cs ≡ 0 → ProperPair s t
+zero-is-proper sig grade bs cs s t p q e = by (cases-bool (is-proper bs cs)) (cases-bool (eqb (grade bs cs) 8))
+  where
+    by : (is-proper bs cs ≡ true) ⊎ (is-proper bs cs ≡ false) → (eqb (grade bs cs) 8 ≡ true) ⊎ (eqb (grade bs cs) 8 ≡ false) → ProperPair s t
+    by (inl h) k = proper-sound sig s t (p .sorted) (q .sorted) (ap₂ is-proper (p .form) (q .form) ∙ h)
+    by (inr h) (inl k) = absurd (omega (arith, as-beneath grade bs cs (eqb-true (grade bs cs) 8 k), e))
+    by (inr h) (inr k) = absurd (omega (arith, past-eight grade bs cs (eqb-false (grade bs cs) 8 k) ∙ ap (λ v. cond v (grade bs cs) 9) h, e))
+
 -- ── the laws follow from those beneath ──
 
 module _ (sig : Arities) (grade : List ℕ → List ℕ → ℕ) (over : Term → Term → Type 0) (laws : OrderLaws sig grade over) where

@@ -59,6 +59,7 @@ fn is_proper(left: &[u8], right: &[u8]) -> bool
 }
 
 // An order that grades a pair 9 that can be no rule's, and else as the order beneath.
+#[derive(Drop)]
 pub struct Fence<'a, O> {
     beneath: &'a O,
 }

@@ -1,0 +1,4 @@
+// The judge of a rule book.
+pub mod judge;
+mod orient;
+pub mod orient_fault;

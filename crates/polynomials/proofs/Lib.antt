@@ -1,0 +1,20 @@
+pub mod Values
+pub mod Degrees
+pub mod Cells
+pub mod Grades
+pub mod Laws
+pub mod Statements
+pub mod Products
+pub mod Tables
+pub mod Holding
+pub mod Algebra
+pub mod Limits
+pub mod Coded
+pub mod Composing
+pub mod Walks
+pub mod Rooms
+pub mod Shifting
+pub mod Comparing
+pub mod Grading
+pub mod Measures
+mod Sums
