@@ -1,4 +1,6 @@
 // Reads the rule book in the file `book` and prints one line: whether it is well formed, and if not, which question says no first and where.
+#![tactic(auto)]
+
 mod lines;
 mod orienting;
 

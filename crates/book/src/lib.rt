@@ -1,4 +1,6 @@
 // Rule books: their bytes are lent and read field by field, and never copied.
+#![tactic(auto)]
+
 pub mod book;
 pub mod fault;
 pub mod field;

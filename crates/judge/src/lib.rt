@@ -1,4 +1,6 @@
 // The judge of a rule book.
+#![tactic(auto)]
+
 pub mod fault;
 pub mod judge;
 pub mod laws;

@@ -1,2 +1,4 @@
 // Theorems on orders.
+#![tactic(auto)]
+
 pub mod theorems;

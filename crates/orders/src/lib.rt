@@ -1,4 +1,6 @@
 // Orders on terms.
+#![tactic(auto)]
+
 mod comparing;
 pub mod fence;
 mod figures;

@@ -1,4 +1,6 @@
 // Polynomial interpretations of terms: the order that they give, and how it is decided by coefficients.
+#![tactic(auto)]
+
 pub mod grade;
 mod measure;
 mod shifted;

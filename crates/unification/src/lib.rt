@@ -1,4 +1,6 @@
 // Whether two left sides of rules overlap, decided by unification, and the critical pair of an overlap.
+#![tactic(auto)]
+
 mod classes;
 pub mod critical;
 mod instances;
