@@ -6,7 +6,7 @@ use Rattle.terms.specs.Prefix.{Arities, WellSorted}
 use Rattle.rewriting.specs.Relation.{Star, done, step, Conversion, same, forth, back, Joinable, LocallyConfluent, Confluent, ChurchRosser, Normal, NormalForm, OneNormalForm, Terminating}
 use Rattle.rewriting.specs.Rewrite.{Step, StepOf, Proper, RulesOf, InnermostStep, InnermostSteps, none, more}
 use Rattle.rewriting.specs.Unify.{FourVariables, OverlapsJoin}
-use Rattle.rewriting.specs.Theorems.{NewmansLemma, ConfluentIffChurchRosser, OneNormalForm, ConvertibleIffSameNormalForm, ConvergentOnGroundTerms, Unification, OneCriticalPair, OneOverlapList, CriticalPairTheorem, KnuthBendixTheorem, JoinedOverlapsSuffice, InnermostStepTheorem, InnermostStepsSuffice}
+use Rattle.rewriting.specs.Theorems.{NewmansLemma, ConfluentIffChurchRosser, OneNormalFormTheorem, ConvertibleIffSameNormalForm, ConvergentOnGroundTerms, Unification, OneCriticalPair, OneOverlapList, CriticalPairTheorem, KnuthBendixTheorem, JoinedOverlapsSuffice, InnermostStepTheorem, InnermostStepsSuffice}
 use Rattle.rewriting.proofs.Abstract.{newman, church_rosser, conv_append, conv_star, conv_sym, single, nf_unique, word_problem}
 use Rattle.rewriting.proofs.Unification as solving
 use Rattle.rewriting.proofs.Pairs as pairs
@@ -41,7 +41,7 @@ innermost_steps_suffice rs = (
       innermost_ends rs (StepOf sig vars rs) (WellSorted sig vars) (λ t u s v. (step_of sig vars 4 rs rules proper s v, sorted_step sig vars 4 rs rules proper s v)) t (ends t) w),
 )
 
-pub one_normal_form : OneNormalForm
+pub one_normal_form : OneNormalFormTheorem
 one_normal_form rs proper ends confluent t =
     let r = (innermost_steps_suffice rs).0 ends t in
     (r.1, (run r.2, r.3), λ m form. nf_unique confluent form (run r.2, r.3))

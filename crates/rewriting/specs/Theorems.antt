@@ -21,8 +21,8 @@ abbrev pub ConfluentIffChurchRosser : Type 0
 ConfluentIffChurchRosser = OfRewriting (λ R. Confluent R ↔ ChurchRosser R)
 
 -- Terminating and confluent rules give each term exactly one normal form.
-abbrev pub OneNormalForm : Type 0
-OneNormalForm =
+abbrev pub OneNormalFormTheorem : Type 0
+OneNormalFormTheorem =
     (rs : List Rule) → Proper rs → Terminating (Step rs {k = one}) → Confluent (Step rs {k = one}) → (t : Term) → OneNormalForm (Step rs) t
 
 -- Under confluence two elements are convertible exactly if their normal forms are equal.

@@ -1,7 +1,7 @@
 // The theorems: each function does nothing, and its contract is what is proved.
 ghost use Rattle.rewriting.specs.Theorems.{NewmansLemma};
 ghost use Rattle.rewriting.specs.Theorems.{ConfluentIffChurchRosser};
-ghost use Rattle.rewriting.specs.Theorems.{OneNormalForm};
+ghost use Rattle.rewriting.specs.Theorems.{OneNormalFormTheorem};
 ghost use Rattle.rewriting.specs.Theorems.{ConvertibleIffSameNormalForm};
 ghost use Rattle.rewriting.specs.Theorems.{ConvergentOnGroundTerms};
 ghost use Rattle.rewriting.specs.Theorems.{Unification};
@@ -22,7 +22,7 @@ pub fn confluent_iff_church_rosser()
 {}
 
 pub fn one_normal_form()
-    ensures { OneNormalForm }
+    ensures { OneNormalFormTheorem }
 {}
 
 pub fn convertible_iff_same_normal_form()
