@@ -39,7 +39,7 @@ returns-in-err-inner-end c a b ra rb =
 pub slice-bounds-first-end : goal.slice-bounds-first-end
 slice-bounds-first-end c =
     let one = c.in-ok-outer-end.ensures c.requires.0.0.0 (reads_in c.term-array-first.ensures c.requires.0.0.1) in
-    omega (arith, one.3, c.type-inv.first)
+    omega (arith, one.3, c.type_inv.first)
 
 pub slice-bounds-eq-end : goal.slice-bounds-eq-end
 slice-bounds-eq-end c =

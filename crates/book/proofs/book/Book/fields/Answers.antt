@@ -3,8 +3,8 @@ use Rattle.book.specs.Format.{Row}
 use Rattle.book.proofs.Held.{held_row}
 use Rattle.book.proofs.book.Book.fields.Goals as goal
 
-pub invariant-of-result : goal.invariant-of-result
-invariant-of-result c =
+pub invariant_of-result : goal.invariant_of-result
+invariant_of-result c =
     let t = c.args.self.now.tables in
     let made = c.new.ensures in
-    (subst Row (sym (ap₂ drop made.1 made.0)) (held_row t.bytes.now t.arities t.symbols t.rules t.count c.args.self.now.holds), tt)
+    record { row = subst Row (sym (ap₂ drop made.1 made.0)) (held_row t.bytes.now t.arities t.symbols t.rules t.count c.args.self.now.holds) }

@@ -12,8 +12,8 @@ use Rattle.book.proofs.book.Book.sides.Goals as goal
 below : (bs arities : List ℕ) (symbols : ℕ) (rules : List ℕ) (count i : ℕ) → ∥ Holds bs arities symbols rules count ∥₁ → i < length (rules_of bs) → i < count
 below bs arities symbols rules count i held h = omega (arith, held_count bs arities symbols rules count held)
 
-pub offset-bounds-self-i : goal.offset-bounds-self-i
-offset-bounds-self-i c =
+pub offset_bounds-self-i : goal.offset_bounds-self-i
+offset_bounds-self-i c =
     let t = c.args.self.now.tables in
     let few = held_few t.bytes.now t.arities t.symbols t.rules t.count c.args.self.now.holds in
     search rules
@@ -23,33 +23,33 @@ bounds-self-i c =
     let t = c.args.self.now.tables in
     omega (arith, held_few t.bytes.now t.arities t.symbols t.rules t.count c.args.self.now.holds)
 
-pub at-place-reader-requires : goal.at-place-reader-requires
-at-place-reader-requires c =
+pub at_place-reader-requires : goal.at_place-reader-requires
+at_place-reader-requires c =
     let t = c.args.self.now.tables in
     rule_inside t.bytes.now t.arities t.symbols t.rules t.count c.args.i (below _ _ _ _ _ _ c.args.self.now.holds (omega arith)) c.args.self.now.holds
 
-pub returns-in-default : goal.returns-in-default
-returns-in-default c =
+pub returns-in_default : goal.returns-in_default
+returns-in_default c =
     let t = c.args.self.now.tables in
-    let made = c.at-place-reader.ensures in
-    let e = c.in-default.field-0 in
+    let made = c.at_place-reader.ensures in
+    let e = c.in_default.field-0 in
     let read = subst (λ w. NotRead w (get_or t.rules c.args.i 0) e c.next.new.self.at) made.0
-    (subst (λ p. NotRead c.at-place-reader.result.bytes.now p e c.next.new.self.at) made.1 c.in-default.ensures.answer) in
+    (subst (λ p. NotRead c.at_place-reader.result.bytes.now p e c.next.new.self.at) made.1 c.in_default.ensures.answer) in
     absurd (rule_not_cut t.bytes.now t.arities t.symbols t.rules t.count c.args.i (below _ _ _ _ _ _ c.args.self.now.holds (omega arith)) c.args.self.now.holds e c.next.new.self.at read)
 
-pub returns-in-default-next : goal.returns-in-default-next
-returns-in-default-next c =
+pub returns-in_default-next : goal.returns-in_default-next
+returns-in_default-next c =
     let t = c.args.self.now.tables in
-    let made = c.at-place-reader.ensures in
-    let came = end_came t.bytes.now c.at-place-reader.result.bytes.now made.0 _ _ c.in-Ok.next c.in-Ok.ensures.answer c.in-default-next.is in
+    let made = c.at_place-reader.ensures in
+    let came = end_came t.bytes.now c.at_place-reader.result.bytes.now made.0 _ _ c.in-Ok.next c.in-Ok.ensures.answer c.in_default-next.is in
     let read = subst (λ p. AtEnd t.bytes.now p c.next.new.self.at) made.1 came in
     absurd (rule_not_end t.bytes.now t.arities t.symbols t.rules t.count c.args.i (below _ _ _ _ _ _ c.args.self.now.holds (omega arith)) c.args.self.now.holds c.next.new.self.at read)
 
 pub returns : goal.returns
 returns c =
     let t = c.args.self.now.tables in
-    let made = c.at-place-reader.ensures in
+    let made = c.at_place-reader.ensures in
     let f = c.in-Some.field in
-    let came = field_came t.bytes.now c.at-place-reader.result.bytes.now made.0 _ _ c.in-Ok.next c.in-Ok.ensures.answer f c.in-Some.is in
+    let came = field_came t.bytes.now c.at_place-reader.result.bytes.now made.0 _ _ c.in-Ok.next c.in-Ok.ensures.answer f c.in-Some.is in
     let read = subst (λ p. FieldRead t.bytes.now p f.offset (meant f) c.next.new.self.at) made.1 came in
     sides_held t.bytes.now t.arities t.symbols t.rules t.count c.args.i (below _ _ _ _ _ _ c.args.self.now.holds (omega arith)) c.args.self.now.holds f.offset (meant f) c.next.new.self.at read c.sides.result c.sides.ensures

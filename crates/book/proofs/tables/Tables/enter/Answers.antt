@@ -5,7 +5,7 @@ use Rattle.book.proofs.tables.Tables.enter.Goals as goal
 
 pub returns : goal.returns
 returns c =
-    let asked = c.in-ok-ask-shape.ensures in
+    let asked = c.in_ok-ask_shape.ensures in
     record {
       bytes = refl;
       answer = λ before laid tabled o. (

@@ -5,11 +5,11 @@ use Rattle.book.specs.Questions.{SymbolFits}
 use Rattle.book.proofs.Entering.{declared_not_new, new_symbol, symbol_push}
 use Rattle.book.proofs.tables.Tables.enter_symbol.Goals as goal
 
-pub returns-then-is-some : goal.returns-then-is-some
-returns-then-is-some c = record {
+pub returns-then-is_some : goal.returns-then-is_some
+returns-then-is_some c = record {
   bytes = refl;
   answer = λ before laid tabled o t. (
-    (λ fits. declared_not_new _ _ _ _ _ before laid tabled (meant c.args.field.now) (ap is_some (sym c.arity.ensures) ∙ sym c.is-some.ensures ∙ c.if-is-some.true) fits),
+    (λ fits. declared_not_new _ _ _ _ _ before laid tabled (meant c.args.field.now) (ap is_some (sym c.arity.ensures) ∙ sym c.is_some.ensures ∙ c.if-is_some.true) fits),
     refl,
     refl,
   );
@@ -23,7 +23,7 @@ returns c = record {
       let fits : SymbolFits before f = record {
         least = omega arith;
         most = omega arith;
-        new = new_symbol _ _ _ _ _ before laid tabled f (ap is_some (sym c.arity.ensures) ∙ sym c.is-some.ensures ∙ c.if-is-some.false);
+        new = new_symbol _ _ _ _ _ before laid tabled f (ap is_some (sym c.arity.ensures) ∙ sym c.is_some.ensures ∙ c.if-is_some.false);
         few = omega arith;
       } in
       let long : length c.args.self.now.arities ≡ 128 = omega arith in (

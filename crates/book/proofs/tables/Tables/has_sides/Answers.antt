@@ -7,31 +7,31 @@ use Rattle.book.proofs.tables.Tables.has_sides.Goals as goal
 never : false ≡ true → ⊥
 never e = let z : ◌≡◌ {A = ℕ} 0 1 = cc in omega arith
 
-pub returns-then-is-side : goal.returns-then-is-side
-returns-then-is-side c =
+pub returns-then-is_side : goal.returns-then-is_side
+returns-then-is_side c =
     let found = c.in-Some.ensures in
     sides_are
     (arity_in c.args.self.now.bytes.now c.args.self.now.arities)
     (book_field c.args.field.now.tag c.args.field.now.value.now)
-    c.is-side-then-is-side.result
+    c.is_side-then-is_side.result
     c.in-Some.sides.left.now
     c.in-Some.sides.right.now
     found.1
     found.2
-    (c.is-side.ensures.0 c.if-is-side.true)
-    c.is-side-then-is-side.ensures
+    (c.is_side.ensures.0 c.if-is_side.true)
+    c.is_side-then-is_side.ensures
 
-pub returns-else-is-side : goal.returns-else-is-side
-returns-else-is-side c =
+pub returns-else-is_side : goal.returns-else-is_side
+returns-else-is_side c =
     let found = c.in-Some.ensures in
-    let left : c.is-side.result ≡ false = c.if-is-side.false in (
+    let left : c.is_side.result ≡ false = c.if-is_side.false in (
       (λ t. absurd (never (cc))),
       (λ s. absurd (no_left
           (arity_in c.args.self.now.bytes.now c.args.self.now.arities)
           (book_field c.args.field.now.tag c.args.field.now.value.now)
           c.in-Some.sides.left.now
           found.1
-          (λ l. let y = c.is-side.ensures.1 l in never (cc))
+          (λ l. let y = c.is_side.ensures.1 l in never (cc))
           s)),
     )
 
