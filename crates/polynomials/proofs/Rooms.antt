@@ -5,7 +5,7 @@ use lib.ListN.{get_or-map, length-map}
 use Rattle.std.proofs.lemmas.Bool.{cases_eq, cases_lt}
 use Rattle.std.proofs.lemmas.List.{get_or_past}
 use Rattle.terms.specs.Term.{Kind, one, many, Tree, var, node, nil, cons, Term, Terms, how_many}
-use Rattle.terms.specs.Prefix.{Arities, WellSorted, behind, first_of}
+use Rattle.terms.specs.Prefix.{Arities, WellSorted, behind, head_term}
 use Rattle.rewriting.proofs.Termination.{sorted_wider}
 use Rattle.polynomials.specs.Polynomial.{Exponents, none, together, Monomial, Polynomial, weighed, total, exponent, power_product, value, greatest, dot, degree, constant, product, power, compose}
 use Rattle.polynomials.specs.Interpretation.{Interpretation, Positive, ProperFor, Proper, Numbers, evaluate, interpret, unit, shifted_variable, polynomial_of, shifted}
@@ -161,7 +161,7 @@ module _ (sig : Arities) (interpretation : Interpretation) (proper : Proper sig 
   polynomials_length nil = refl
   polynomials_length (cons t ts) = let h = polynomials_length ts in omega arith
 
-  pub polynomial_at : (ts : Terms) (j : ℕ) → j < how_many ts → get_or (interpret interpretation shifted_variable ts) j [] ≡ shifted interpretation (first_of (behind j ts))
+  pub polynomial_at : (ts : Terms) (j : ℕ) → j < how_many ts → get_or (interpret interpretation shifted_variable ts) j [] ≡ shifted interpretation (head_term (behind j ts))
   polynomial_at nil j h = absurd (omega arith)
   polynomial_at (cons t ts) zero h = refl
   polynomial_at (cons t ts) (suc j) h = polynomial_at ts j (omega arith)
@@ -180,11 +180,11 @@ module _ (sig : Arities) (interpretation : Interpretation) (proper : Proper sig 
     positive_here = evaluate_least interpretation sig proper (λ x. 2) (λ x. omega arith) ts (sorted_wider sig 4 8 (omega arith) ts w.2)
 
     -- there is room for each argument
-    pub argument_room : (j : ℕ) → j < how_many ts → WellSorted sig 4 (first_of (behind j ts)) → TermRoom interpretation (first_of (behind j ts))
+    pub argument_room : (j : ℕ) → j < how_many ts → WellSorted sig 4 (head_term (behind j ts)) → TermRoom interpretation (head_term (behind j ts))
     argument_room j h sorted = record {
       degrees = λ i l.
           let d = fits.degrees i l in
-          let a = degree_polynomial sig 4 interpretation proper i (first_of (behind j ts)) sorted in
+          let a = degree_polynomial sig 4 interpretation proper i (head_term (behind j ts)) sorted in
           let b = degree_polynomial sig 4 interpretation proper i (node f ts) w in
           let z : ℕ → ℕ = λ x. exponent i (unit x) in
           let c = number_at (rise interpretation z) (rise interpretation z) refl (λ t ts. refl) ts j h in

@@ -3,7 +3,7 @@ use Rattle.std.proofs.Common.{◌≡◌, ℕ, zero, suc, ◌+◌, ◌-◌, ◌<�
 use Rattle.std.proofs.lemmas.List.{drop_at, get_or_past}
 use Rattle.std.proofs.lemmas.Bool.{cases_lt, cases_eq}
 use Rattle.terms.specs.Term.{Kind, one, many, Tree, var, node, nil, cons, Term, Terms, how_many, size}
-use Rattle.terms.specs.Prefix.{Arities, prefix, WellSorted, Begins, behind, first_of}
+use Rattle.terms.specs.Prefix.{Arities, prefix, WellSorted, Begins, behind, head_term}
 use Rattle.terms.proofs.Reading.{prefix_length}
 use Rattle.polynomials.specs.Coding.{cut_off}
 use Rattle.polynomials.proofs.Limits.{cut_le, cut_twice}
@@ -14,12 +14,12 @@ arguments (node f ts) = ts
 
 -- the argument with the number i
 abbrev pub argument : ℕ → Term → Term
-argument i t = first_of (behind i (arguments t))
+argument i t = head_term (behind i (arguments t))
 
-behind_more : (ts : Terms) (i : ℕ) → i < how_many ts → behind i ts ≡ cons (first_of (behind i ts)) (behind (i + 1) ts)
+behind_more : (ts : Terms) (i : ℕ) → i < how_many ts → behind i ts ≡ cons (head_term (behind i ts)) (behind (i + 1) ts)
 behind_more nil i h = absurd (omega arith)
 behind_more (cons t ts) zero h = refl
-behind_more (cons t ts) (suc i) h = let e : suc i + 1 ≡ suc (i + 1) = omega arith in behind_more ts i (omega arith) ∙ ap (λ j. cons (first_of (behind i ts)) (behind j (cons t ts))) (sym e)
+behind_more (cons t ts) (suc i) h = let e : suc i + 1 ≡ suc (i + 1) = omega arith in behind_more ts i (omega arith) ∙ ap (λ j. cons (head_term (behind i ts)) (behind j (cons t ts))) (sym e)
 
 behind_none : (ts : Terms) (i : ℕ) → i ≡ how_many ts → behind i ts ≡ nil
 behind_none nil zero h = refl
@@ -161,7 +161,7 @@ filled_alike limit ns args i filled all j =
 
 -- the numbers of a list of terms, one for each
 module _ (number : Term → ℕ) (numbers : Terms → List ℕ) (none : numbers nil ≡ []) (more : (t : Term) (ts : Terms) → numbers (cons t ts) ≡ number t ∷ numbers ts) where
-  pub number_at : (ts : Terms) (i : ℕ) → i < how_many ts → get_or (numbers ts) i 0 ≡ number (first_of (behind i ts))
+  pub number_at : (ts : Terms) (i : ℕ) → i < how_many ts → get_or (numbers ts) i 0 ≡ number (head_term (behind i ts))
   number_at nil i h = absurd (omega arith)
   number_at (cons t ts) zero h = ap (λ l. get_or l 0 0) (more t ts)
   number_at (cons t ts) (suc i) h = ap (λ l. get_or l (suc i) 0) (more t ts) ∙ number_at ts i (omega arith)

@@ -5,14 +5,14 @@ use Rattle.orders.proofs.comparing.+greater_greater_by_arguments_greater_or_same
 abbrev pub decreases-greater : goal.decreases-greater
 decreases-greater l = 3 * (length l.s.now + length l.t.now)
 
-abbrev pub decreases-greater-or-same : goal.decreases-greater-or-same
-decreases-greater-or-same l = 3 * (length l.s.now + length l.t.now) + 1
+abbrev pub decreases-greater_or_same : goal.decreases-greater_or_same
+decreases-greater_or_same l = 3 * (length l.s.now + length l.t.now) + 1
 
-abbrev pub decreases-some-at-least : goal.decreases-some-at-least
-decreases-some-at-least l = 3 * (length l.ss.now + length l.t.now) + 2
+abbrev pub decreases-some_at_least : goal.decreases-some_at_least
+decreases-some_at_least l = 3 * (length l.ss.now + length l.t.now) + 2
 
-abbrev pub decreases-greater-than-all : goal.decreases-greater-than-all
-decreases-greater-than-all l = 3 * (length l.s.now + length l.ts.now) + 2
+abbrev pub decreases-greater_than_all : goal.decreases-greater_than_all
+decreases-greater_than_all l = 3 * (length l.s.now + length l.ts.now) + 2
 
-abbrev pub decreases-greater-by-arguments : goal.decreases-greater-by-arguments
-decreases-greater-by-arguments l = 3 * (length l.s.now + length l.t.now) - l.i
+abbrev pub decreases-greater_by_arguments : goal.decreases-greater_by_arguments
+decreases-greater_by_arguments l = 3 * (length l.s.now + length l.t.now) - l.i

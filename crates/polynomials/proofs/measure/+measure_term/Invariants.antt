@@ -5,8 +5,8 @@ use Rattle.polynomials.specs.Measured.{measured}
 use Rattle.polynomials.proofs.Walks.{arguments, Walked, Filled}
 use Rattle.polynomials.proofs.measure.+measure_term.Given as goal
 
-abbrev pub decreases-measure-term : goal.decreases-measure-term
-decreases-measure-term g l = length l.bytes.now
+abbrev pub decreases-measure_term : goal.decreases-measure_term
+decreases-measure_term g l = length l.bytes.now
 
 abbrev pub invariant-loop-i : goal.invariant-loop-i
 invariant-loop-i g l =

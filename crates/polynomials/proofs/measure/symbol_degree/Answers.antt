@@ -9,10 +9,10 @@ loop-k-init c = let e = ap (greatest (dot c.args.args.now)) (left_all c.args.mon
 
 pub loop-k-preserved : goal.loop-k-preserved
 loop-k-preserved c =
-    let turn = degree_turn c.args.args.now c.args.monomials.now c.loop-k.k c.loop-k.most c.monomial-degree-degree.result _ (omega arith) c.loop-k.invariant c.monomial-degree-degree.ensures in
+    let turn = degree_turn c.args.args.now c.args.monomials.now c.loop-k.k c.loop-k.most c.monomial_degree-degree.result _ (omega arith) c.loop-k.invariant c.monomial_degree-degree.ensures in
     elim c.if-degree-most.branch [
-      | then-degree-most w ↦ let m : c.if-degree-most.most ≡ max c.loop-k.most c.monomial-degree-degree.result = omega (arith, w.most-is, w.if-degree-most.true) in ap (λ n. max n (greatest (dot c.args.args.now) (left_from c.args.monomials.now (c.loop-k.k + 1)))) m ∙ turn
-      | else-degree-most w ↦ let m : c.if-degree-most.most ≡ max c.loop-k.most c.monomial-degree-degree.result = omega (arith, w.most-is, w.if-degree-most.false) in ap (λ n. max n (greatest (dot c.args.args.now) (left_from c.args.monomials.now (c.loop-k.k + 1)))) m ∙ turn
+      | then-degree-most w ↦ let m : c.if-degree-most.most ≡ max c.loop-k.most c.monomial_degree-degree.result = omega (arith, w.most-is, w.if-degree-most.true) in ap (λ n. max n (greatest (dot c.args.args.now) (left_from c.args.monomials.now (c.loop-k.k + 1)))) m ∙ turn
+      | else-degree-most w ↦ let m : c.if-degree-most.most ≡ max c.loop-k.most c.monomial_degree-degree.result = omega (arith, w.most-is, w.if-degree-most.false) in ap (λ n. max n (greatest (dot c.args.args.now) (left_from c.args.monomials.now (c.loop-k.k + 1)))) m ∙ turn
     ]
 
 pub returns : goal.returns

@@ -4,8 +4,8 @@ use Rattle.polynomials.specs.Coding.{cut_off}
 use Rattle.polynomials.proofs.Limits.{cut_le, cut_factor}
 use Rattle.polynomials.proofs.measure.times_power.Goals as goal
 
-pub overflow-mul-r : goal.overflow-mul-r
-overflow-mul-r c =
+pub overflow_mul-r : goal.overflow_mul-r
+overflow_mul-r c =
     let h : c.loop-k.r ≤ 2147483648 = rw c.loop-k.invariant (cut_le 2147483648 _) in
     omega (arith, mul-le-mul {n₂ = 2147483648} {m₂ = 2147483648} h c.requires.1)
 

@@ -7,8 +7,8 @@ use Rattle.polynomials.proofs.Walks.{arguments, Walked}
 use Rattle.polynomials.proofs.Shifting.{Tables}
 use Rattle.polynomials.proofs.shifted.+shifted_coefficients.Given as goal
 
-abbrev pub decreases-shifted-coefficients : goal.decreases-shifted-coefficients
-decreases-shifted-coefficients g l = length l.bytes.now
+abbrev pub decreases-shifted_coefficients : goal.decreases-shifted_coefficients
+decreases-shifted_coefficients g l = length l.bytes.now
 
 abbrev pub invariant-loop-i : goal.invariant-loop-i
 invariant-loop-i g l =

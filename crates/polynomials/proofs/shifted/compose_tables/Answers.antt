@@ -12,8 +12,8 @@ loop-k-init c = (
   λ p q s three room j h. let z = c.zero-sum.ensures.each j h in let e = compose_start c.args.monomials.now (p ∷ q ∷ s ∷ []) (exponents_at j) in omega arith,
 )
 
-pub add-monomial-requires : goal.add-monomial-requires
-add-monomial-requires c = record {
+pub add_monomial-requires : goal.add_monomial-requires
+add_monomial-requires c = record {
   inside = omega arith;
   small = λ j h.
       let i = c.loop-k.invariant.1 c.requires.0 c.requires.1 c.requires.2 c.requires.3 c.requires.4 j h in
@@ -31,11 +31,11 @@ add-monomial-requires c = record {
 
 pub loop-k-preserved : goal.loop-k-preserved
 loop-k-preserved c = (
-  c.add-monomial.ensures.full ∙ c.loop-k.invariant.0,
+  c.add_monomial.ensures.full ∙ c.loop-k.invariant.0,
   λ p q s three room j h.
       let i = c.loop-k.invariant.1 p q s three room j h in
       let m = each_at (λ m. MonomialRoom m p q s) c.args.monomials.now room.monomials c.loop-k.k (omega arith) in
-      let a = c.add-monomial.ensures.each p q s three m j h in
+      let a = c.add_monomial.ensures.each p q s three m j h in
       let t = compose_turn c.args.monomials.now (p ∷ q ∷ s ∷ []) (exponents_at j) c.loop-k.k (omega arith) in
       omega arith,
 )

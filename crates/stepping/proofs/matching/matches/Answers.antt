@@ -16,9 +16,9 @@ pub returns-then-bytes-j : goal.returns-then-bytes-j
 returns-then-bytes-j c =
     inv_symbol_clash _ _ _ _ c.requires.0 c.requires.1 c.loop-i.i c.loop-i.j c.loop-i.bindings c.loop-i.invariant c.loop-i-test.true c.if-byte-lt-VARIABLE.true c.if-bytes-j.true
 
-pub returns-in-default : goal.returns-in-default
-returns-in-default c =
-    absurd (inv_some _ _ _ _ c.requires.0 c.requires.1 c.loop-i.i c.loop-i.j c.loop-i.bindings c.loop-i.invariant c.loop-i-test.true (first_from (signature_of c.args.book.now.tables.bytes.now) c.args.variables c.args.bytes.now c.loop-i.j None c.in-default.ensures))
+pub returns-in_default : goal.returns-in_default
+returns-in_default c =
+    absurd (inv_some _ _ _ _ c.requires.0 c.requires.1 c.loop-i.i c.loop-i.j c.loop-i.bindings c.loop-i.invariant c.loop-i-test.true (first_from (signature_of c.args.book.now.tables.bytes.now) c.args.variables c.args.bytes.now c.loop-i.j None c.in_default.ensures))
 
 pub bind-requires : goal.bind-requires
 bind-requires c = (
@@ -35,8 +35,8 @@ returns-then-not-bind c =
     inv_variable_clash _ _ _ _ c.requires.0 c.requires.1 c.loop-i.i c.loop-i.j c.loop-i.bindings c.loop-i.invariant c.loop-i-test.true c.if-byte-lt-VARIABLE.false
     c.in-Some.len (record { start = c.loop-i.j; len = c.in-Some.len }) refl refl (first_from (signature_of c.args.book.now.tables.bytes.now) c.args.variables c.args.bytes.now c.loop-i.j (Some c.in-Some.len) c.in-Some.ensures) c.bind.new.bindings c.if-not-bind.ensures
 
-pub overflow-add-j-else-byte-lt-VARIABLE : goal.overflow-add-j-else-byte-lt-VARIABLE
-overflow-add-j-else-byte-lt-VARIABLE c =
+pub overflow_add-j-else-byte-lt-VARIABLE : goal.overflow_add-j-else-byte-lt-VARIABLE
+overflow_add-j-else-byte-lt-VARIABLE c =
     let w = first_within (signature_of c.args.book.now.tables.bytes.now) c.args.variables (drop c.loop-i.j c.args.bytes.now) c.in-Some.len (first_from (signature_of c.args.book.now.tables.bytes.now) c.args.variables c.args.bytes.now c.loop-i.j (Some c.in-Some.len) c.in-Some.ensures) in
     omega (arith, length-drop c.loop-i.j c.args.bytes.now)
 

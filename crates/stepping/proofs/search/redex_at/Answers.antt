@@ -7,8 +7,8 @@ use Rattle.stepping.proofs.search.redex_at.Goals as goal
 pub loop-rule-init : goal.loop-rule-init
 loop-rule-init c t reads j h m = omega arith
 
-pub returns-in-default : goal.returns-in-default
-returns-in-default c t reads = none_below_all (rules_of c.args.book.now.tables.bytes.now) t c.args.place c.loop-rule.rule (c.loop-rule.invariant t reads) c.in-default.ensures
+pub returns-in_default : goal.returns-in_default
+returns-in_default c t reads = none_below_all (rules_of c.args.book.now.tables.bytes.now) t c.args.place c.loop-rule.rule (c.loop-rule.invariant t reads) c.in_default.ensures
 
 pub matches-requires : goal.matches-requires
 matches-requires c =
@@ -29,8 +29,8 @@ pub loop-rule-preserved : goal.loop-rule-preserved
 loop-rule-preserved c t reads =
     none_below_more (rules_of c.args.book.now.tables.bytes.now) t c.args.place c.loop-rule.rule (c.loop-rule.invariant t reads)
     (not_matched c.args.book.now.tables.bytes.now c.args.variables c.args.term.now c.loop-rule.rule c.args.place t reads c.requires.1
-    c.in-Some.sides.left.now c.in-Some.sides.right.now c.in-Some.ensures c.in-default-matches.ensures)
+    c.in-Some.sides.left.now c.in-Some.sides.right.now c.in-Some.ensures c.in_default-matches.ensures)
 
 pub returns : goal.returns
 returns c t reads =
-    none_below_all (rules_of c.args.book.now.tables.bytes.now) t c.args.place c.loop-rule.rule (c.loop-rule.invariant t reads) (omega (arith, c.rule-count-rule-end.ensures.0, c.loop-rule-test.false))
+    none_below_all (rules_of c.args.book.now.tables.bytes.now) t c.args.place c.loop-rule.rule (c.loop-rule.invariant t reads) (omega (arith, c.rule_count-rule-end.ensures.0, c.loop-rule-test.false))

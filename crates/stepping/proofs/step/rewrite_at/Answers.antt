@@ -4,43 +4,43 @@ use Rattle.stepping.proofs.step.rewrite_at.Goals as goal
 
 pub returns-then-place-term : goal.returns-then-place-term
 returns-then-place-term c =
-    let t = c.if-not-is-term.ensures.0 refl in
+    let t = c.if-not-is_term.ensures.0 refl in
     ((t.0, t.1, behind_the_end c.args.book.now.tables.bytes.now c.args.variables c.args.term.now c.args.rule c.args.place t.0 t.1 c.if-place-term.true), refl)
 
-pub returns-in-default : goal.returns-in-default
-returns-in-default c =
-    let t = c.if-not-is-term.ensures.0 refl in
-    ((t.0, t.1, no_such_rule c.args.book.now.tables.bytes.now c.args.variables c.args.term.now c.args.rule c.args.place t.0 t.1 c.in-default.ensures), refl)
+pub returns-in_default : goal.returns-in_default
+returns-in_default c =
+    let t = c.if-not-is_term.ensures.0 refl in
+    ((t.0, t.1, no_such_rule c.args.book.now.tables.bytes.now c.args.variables c.args.term.now c.args.rule c.args.place t.0 t.1 c.in_default.ensures), refl)
 
 pub matches-requires : goal.matches-requires
 matches-requires c =
-    let t = c.if-not-is-term.ensures.0 refl in
+    let t = c.if-not-is_term.ensures.0 refl in
     can_match c.args.book.now.tables.bytes.now c.args.variables c.args.term.now c.args.rule c.args.place t.0 t.1 c.if-place-term.false
     c.in-Some.sides.left.now c.in-Some.sides.right.now c.in-Some.ensures
 
-pub returns-in-default-matches : goal.returns-in-default-matches
-returns-in-default-matches c =
-    let t = c.if-not-is-term.ensures.0 refl in
+pub returns-in_default-matches : goal.returns-in_default-matches
+returns-in_default-matches c =
+    let t = c.if-not-is_term.ensures.0 refl in
     let none = not_matched c.args.book.now.tables.bytes.now c.args.variables c.args.term.now c.args.rule c.args.place t.0 t.1 c.if-place-term.false
-    c.in-Some.sides.left.now c.in-Some.sides.right.now c.in-Some.ensures c.in-default-matches.ensures in
+    c.in-Some.sides.left.now c.in-Some.sides.right.now c.in-Some.ensures c.in_default-matches.ensures in
     ((t.0, t.1, λ m. none m.matches), refl)
 
-pub write-replaced-requires : goal.write-replaced-requires
-write-replaced-requires c =
-    let t = c.if-not-is-term.ensures.0 refl in
+pub write_replaced-requires : goal.write_replaced-requires
+write_replaced-requires c =
+    let t = c.if-not-is_term.ensures.0 refl in
     can_write c.args.book.now.tables.bytes.now c.args.variables c.args.term.now c.args.rule c.args.place t.0 t.1 c.if-place-term.false
     c.in-Some.sides.left.now c.in-Some.sides.right.now c.in-Some.ensures c.in-Some-matches.found c.in-Some-matches.ensures
 
-pub returns-in-Some-write-replaced : goal.returns-in-Some-write-replaced
-returns-in-Some-write-replaced c =
-    let t = c.if-not-is-term.ensures.0 refl in
+pub returns-in-Some-write_replaced : goal.returns-in-Some-write_replaced
+returns-in-Some-write_replaced c =
+    let t = c.if-not-is_term.ensures.0 refl in
     step_done c.args.book.now.tables.bytes.now c.args.variables c.args.term.now c.args.rule c.args.place t.0 t.1 c.if-place-term.false
     c.in-Some.sides.left.now c.in-Some.sides.right.now c.in-Some.ensures c.in-Some-matches.found c.in-Some-matches.ensures
-    c.args.page.now c.write-replaced.new.page c.in-Some-write-replaced.n c.in-Some-write-replaced.ensures
+    c.args.page.now c.write_replaced.new.page c.in-Some-write_replaced.n c.in-Some-write_replaced.ensures
 
 pub returns-in-None : goal.returns-in-None
 returns-in-None c =
-    let t = c.if-not-is-term.ensures.0 refl in
+    let t = c.if-not-is_term.ensures.0 refl in
     step_without_room c.args.book.now.tables.bytes.now c.args.variables c.args.term.now c.args.rule c.args.place t.0 t.1 c.if-place-term.false
     c.in-Some.sides.left.now c.in-Some.sides.right.now c.in-Some.ensures c.in-Some-matches.found c.in-Some-matches.ensures
-    c.args.page.now c.write-replaced.new.page c.in-None.ensures
+    c.args.page.now c.write_replaced.new.page c.in-None.ensures

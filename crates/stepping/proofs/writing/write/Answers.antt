@@ -4,8 +4,8 @@ use Rattle.stepping.proofs.writing.write.Goals as goal
 
 pub returns : goal.returns
 returns c =
-    let put = c.copy-from-slice.new.self in
-    let same : put ≡ c.args.bytes.now = c.copy-from-slice.ensures.after in
+    let put = c.copy_from_slice.new.self in
+    let same : put ≡ c.args.bytes.now = c.copy_from_slice.ensures.after in
     let at = c.args.at in
     let end = at + length c.args.bytes.now in
     let inside : at ≤ length c.args.page.now = omega (arith, c.requires) in

@@ -10,27 +10,27 @@ returns-then-around-page c =
     no_room c.args.term.now c.args.place c.args.found.now.len c.requires.0
     (instance_bytes c.args.found.now.bindings (drop c.args.place c.args.term.now) c.args.right.now) c.args.page.now (omega (arith, c.if-around-page.true))
 
-pub instance-fits-requires : goal.instance-fits-requires
-instance-fits-requires c = (c.requires.2, subst (λ w. AllWithin w c.args.found.now.bindings) (sym (take_rest c.args.term.now c.args.place)) c.requires.1)
+pub instance_fits-requires : goal.instance_fits-requires
+instance_fits-requires c = (c.requires.2, subst (λ w. AllWithin w c.args.found.now.bindings) (sym (take_rest c.args.term.now c.args.place)) c.requires.1)
 
-pub returns-then-not-instance-fits : goal.returns-then-not-instance-fits
-returns-then-not-instance-fits c =
+pub returns-then-not-instance_fits : goal.returns-then-not-instance_fits
+returns-then-not-instance_fits c =
     let term = c.args.term.now in
     let place = c.args.place in
     let found = c.args.found.now in
     let new = instance_bytes found.bindings (drop place term) c.args.right.now in
     let room = length c.args.page.now - (length term - found.len) in
-    let fits = subst (λ w. Decides false (length (instance_bytes found.bindings w c.args.right.now) ≤ room)) (take_rest term place) c.if-not-instance-fits.ensures in
+    let fits = subst (λ w. Decides false (length (instance_bytes found.bindings w c.args.right.now) ≤ room)) (take_rest term place) c.if-not-instance_fits.ensures in
     no_room term place found.len c.requires.0 new c.args.page.now (omega (arith, too_long (length new) room fits, c.if-around-page.false))
 
-pub write-instance-second-requires : goal.write-instance-second-requires
-write-instance-second-requires c =
+pub write_instance-second-requires : goal.write_instance-second-requires
+write_instance-second-requires c =
     let term = c.args.term.now in
     let place = c.args.place in
     let e : place - 0 ≡ place = omega arith in (
       c.requires.2,
       subst (λ w. AllWithin w c.args.found.now.bindings) (sym (take_rest term place)) c.requires.1,
-      omega (arith, c.requires.0, c.if-not-instance-fits.ensures.0 refl, c.if-around-page.false, c.write-first.ensures.end, c.write-first.auto.page, ap (λ k. length (take k term)) e, length-take-le place term (omega (arith, c.requires.0))),
+      omega (arith, c.requires.0, c.if-not-instance_fits.ensures.0 refl, c.if-around-page.false, c.write-first.ensures.end, c.write-first.auto.page, ap (λ k. length (take k term)) e, length-take-le place term (omega (arith, c.requires.0))),
     )
 
 pub returns : goal.returns
@@ -43,11 +43,11 @@ returns c =
     let new = instance_bytes found.bindings (drop place term) right in
     let room = length c.args.page.now - (length term - found.len) in
     three_writes term place found.len c.requires.0 new
-    c.args.page.now c.write-first.new.page c.write-instance-second.new.page c.write.new.page
-    c.write-first.result c.write-instance-second.result c.write.result
+    c.args.page.now c.write-first.new.page c.write_instance-second.new.page c.write.new.page
+    c.write-first.result c.write_instance-second.result c.write.result
     c.write-first.ensures.end c.write-first.ensures.written
-    (subst (λ w. c.write-instance-second.result ≡ c.write-first.result + length (instance_bytes found.bindings w right)) e c.write-instance-second.ensures.end)
-    (subst (λ w. Written c.write-first.new.page c.write-first.result (instance_bytes found.bindings w right) c.write-instance-second.new.page) e c.write-instance-second.ensures.written)
+    (subst (λ w. c.write_instance-second.result ≡ c.write-first.result + length (instance_bytes found.bindings w right)) e c.write_instance-second.ensures.end)
+    (subst (λ w. Written c.write-first.new.page c.write-first.result (instance_bytes found.bindings w right) c.write_instance-second.new.page) e c.write_instance-second.ensures.written)
     c.write.ensures.end c.write.ensures.written
     c.if-around-page.false
-    (subst (λ w. length (instance_bytes found.bindings w right) ≤ room) e (c.if-not-instance-fits.ensures.0 refl))
+    (subst (λ w. length (instance_bytes found.bindings w right) ≤ room) e (c.if-not-instance_fits.ensures.0 refl))

@@ -10,7 +10,7 @@ loop-i-preserved c =
     (elim c.if-c-ge-VARIABLE.branch [
       | then-c-ge-VARIABLE w ↦
           subst (Initial c.args.codes.now c.loop-i.i) (sym w.first-is)
-          (initial_variable _ _ _ (omega arith) w.if-c-ge-VARIABLE.true w.first-code-first.ensures.before w.first-code-first.ensures.found)
+          (initial_variable _ _ _ (omega arith) w.if-c-ge-VARIABLE.true w.first_code-first.ensures.before w.first_code-first.ensures.found)
       | else-c-ge-VARIABLE w ↦
           subst (Initial c.args.codes.now c.loop-i.i) (sym w.first-is)
           (initial_symbol _ _ (omega arith) w.if-c-ge-VARIABLE.false)

@@ -19,8 +19,8 @@ pub returns-then-not-unify : goal.returns-then-not-unify
 returns-then-not-unify g c = λ a b s.
     c.unify.ensures.no (λ y. subst T c.if-not-unify.true y) _ _ (part_stands _ _ _ _ _ a b s _ c.requires.inside) (second_stands _ _ _ _ _ a b s)
 
-pub write-pair-requires : goal.write-pair-requires
-write-pair-requires g c =
+pub write_pair-requires : goal.write_pair-requires
+write_pair-requires g c =
     let s = c.requires.sides.2 in
     record {
       laid = record { terms = sides_forest _ _ _ _ _ _ _ s; few = c.requires.few; room = omega arith; ends = c.ends.ensures };

@@ -9,16 +9,16 @@ instance-requires g c =
     let o = sides_ordered _ _ _ _ _ _ _ c.requires.sides.2 in
     record { laid = c.requires.laid; bindings = c.requires.unified.bindings; order = omega arith; inside = o.0 }
 
-pub returns-in-default : goal.returns-in-default
-returns-in-default g c = λ a b s. too_long_peak _ _ _ _ _ a b s _ _ _ c.requires.inside c.requires.unified (c.in-default.ensures c.requires.unified.μ c.requires.unified.solves)
+pub returns-in_default : goal.returns-in_default
+returns-in_default g c = λ a b s. too_long_peak _ _ _ _ _ a b s _ _ _ c.requires.inside c.requires.unified (c.in_default.ensures c.requires.unified.μ c.requires.unified.solves)
 
 pub instance-requires-2 : goal.instance-requires-2
 instance-requires-2 g c =
     let o = sides_ordered _ _ _ _ _ _ _ c.requires.sides.2 in
     record { laid = c.requires.laid; bindings = c.requires.unified.bindings; order = o.1; inside = o.2 }
 
-pub returns-in-default-instance : goal.returns-in-default-instance
-returns-in-default-instance g c = λ a b s. too_long_outer _ _ _ _ _ a b s _ _ _ c.requires.inside c.requires.unified (c.in-default-instance.ensures c.requires.unified.μ c.requires.unified.solves)
+pub returns-in_default-instance : goal.returns-in_default-instance
+returns-in_default-instance g c = λ a b s. too_long_outer _ _ _ _ _ a b s _ _ _ c.requires.inside c.requires.unified (c.in_default-instance.ensures c.requires.unified.μ c.requires.unified.solves)
 
 pub replaced-requires : goal.replaced-requires
 replaced-requires g c =
@@ -26,14 +26,14 @@ replaced-requires g c =
     let e = part_end _ _ _ _ _ _ _ c.requires.sides.2 c.args.place c.args.end.now c.requires.laid.ends c.requires.inside in
     record { laid = c.requires.laid; bindings = c.requires.unified.bindings; place = omega (arith, o.0); order = e.1; inside = o.0; rest = o.2 }
 
-pub returns-in-default-replaced : goal.returns-in-default-replaced
-returns-in-default-replaced g c = λ a b s. too_long_inner _ _ _ _ _ a b s _ _ _ c.requires.inside c.requires.unified c.args.end.now c.requires.laid.ends (c.in-default-replaced.ensures c.requires.unified.μ c.requires.unified.solves)
+pub returns-in_default-replaced : goal.returns-in_default-replaced
+returns-in_default-replaced g c = λ a b s. too_long_inner _ _ _ _ _ a b s _ _ _ c.requires.inside c.requires.unified c.args.end.now c.requires.laid.ends (c.in_default-replaced.ensures c.requires.unified.μ c.requires.unified.solves)
 
 pub appearances-n-requires : goal.appearances-n-requires
 appearances-n-requires g c =
     record {
       eight = refl;
-      low = peak_low _ _ _ _ _ _ _ c.requires.sides.2 _ _ _ c.requires.inside c.requires.unified _ (c.as-slice.ensures ∙ c.in-Some.ensures c.requires.unified.μ c.requires.unified.solves);
+      low = peak_low _ _ _ _ _ _ _ c.requires.sides.2 _ _ _ c.requires.inside c.requires.unified _ (c.as_slice.ensures ∙ c.in-Some.ensures c.requires.unified.μ c.requires.unified.solves);
     }
 
 pub returns : goal.returns
@@ -42,6 +42,6 @@ returns g c = λ a b s.
     (c.in-Some.ensures c.requires.unified.μ c.requires.unified.solves)
     (c.in-Some-instance.ensures c.requires.unified.μ c.requires.unified.solves)
     (c.in-Some-replaced.ensures c.requires.unified.μ c.requires.unified.solves)
-    (c.appearances-n.ensures.seen ∙ ap (seen_among []) c.as-slice.ensures)
+    (c.appearances-n.ensures.seen ∙ ap (seen_among []) c.as_slice.ensures)
     c.renumbered.ensures.each c.renumbered-2.ensures.each c.renumbered-3.ensures.each
     c.renumbered.ensures.short c.renumbered-2.ensures.short c.renumbered-3.ensures.short

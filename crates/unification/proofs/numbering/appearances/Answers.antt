@@ -11,7 +11,7 @@ loop-i-init c = seen_none _ _
 pub bounds-variables-n : goal.bounds-variables-n
 bounds-variables-n c =
     let n : c.loop-i.n ≤ length c.loop-i.variables = omega arith in
-    let h = seen_room c.loop-i.variables _ c.loop-i.n c.first-code.result n c.first-code.ensures.before c.if-first-code-n.true c.if-x-ge-VARIABLE.true (c.requires.low c.loop-i.i (omega arith)) c.loop-i.invariant.once in
+    let h = seen_room c.loop-i.variables _ c.loop-i.n c.first_code.result n c.first_code.ensures.before c.if-first_code-n.true c.if-x-ge-VARIABLE.true (c.requires.low c.loop-i.i (omega arith)) c.loop-i.invariant.once in
     omega arith
 
 pub loop-i-preserved : goal.loop-i-preserved
@@ -20,14 +20,14 @@ loop-i-preserved c =
     let n : c.loop-i.n ≤ length c.loop-i.variables = omega arith in
     elim c.if-x-ge-VARIABLE.branch [
       | then-x-ge-VARIABLE+then-first-code-n w ↦
-          let room = seen_room c.loop-i.variables _ c.loop-i.n w.first-code.result n w.first-code.ensures.before w.if-first-code-n.true w.if-x-ge-VARIABLE.true (c.requires.low c.loop-i.i i) c.loop-i.invariant.once in
+          let room = seen_room c.loop-i.variables _ c.loop-i.n w.first_code.result n w.first_code.ensures.before w.if-first_code-n.true w.if-x-ge-VARIABLE.true (c.requires.low c.loop-i.i i) c.loop-i.invariant.once in
           seen_as _ _ _ _ _ _ w.variables-is w.n-is
           (turn_new _ _ _ _ i c.loop-i.invariant room (omega arith) w.if-x-ge-VARIABLE.true (c.requires.low c.loop-i.i i)
-          (not_seen _ _ _ _ n w.first-code.ensures.before w.if-first-code-n.true))
+          (not_seen _ _ _ _ n w.first_code.ensures.before w.if-first_code-n.true))
       | then-x-ge-VARIABLE+else-first-code-n w ↦
           seen_as _ _ _ _ _ _ w.variables-is w.n-is
           (turn_stays _ _ _ _ i c.loop-i.invariant
-          (seen_old _ _ _ i w.if-x-ge-VARIABLE.true (seen_before _ _ _ _ n w.first-code.ensures.within w.first-code.ensures.found w.if-first-code-n.false)))
+          (seen_old _ _ _ i w.if-x-ge-VARIABLE.true (seen_before _ _ _ _ n w.first_code.ensures.within w.first_code.ensures.found w.if-first_code-n.false)))
       | else-x-ge-VARIABLE w ↦
           seen_as _ _ _ _ _ _ w.variables-is w.n-is (turn_stays _ _ _ _ i c.loop-i.invariant (seen_symbol _ _ _ i w.if-x-ge-VARIABLE.false))
     ]

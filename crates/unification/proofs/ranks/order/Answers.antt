@@ -5,8 +5,8 @@ use Rattle.unification.proofs.ranks.order.Goals as goal
 pub loop-i-init : goal.loop-i-init
 loop-i-init g c = (omega arith, ranks_zero _ _ _ _ _ (omega arith) (c.fill.ensures.after (λ y h. h)))
 
-pub next-ready-requires : goal.next-ready-requires
-next-ready-requires g c =
+pub next_ready-requires : goal.next_ready-requires
+next_ready-requires g c =
     record {
       room = c.requires.laid.room;
       ends = λ i h. end_inside _ _ _ i c.requires.laid.terms c.requires.laid.ends h;
@@ -14,8 +14,8 @@ next-ready-requires g c =
       ranks = c.loop-i.invariant.1.as_many;
     }
 
-pub overflow-add-next : goal.overflow-add-next
-overflow-add-next g c = let f = c.loop-i.invariant.1.few in let n = c.requires.laid.few in omega arith
+pub overflow_add-next : goal.overflow_add-next
+overflow_add-next g c = let f = c.loop-i.invariant.1.few in let n = c.requires.laid.few in omega arith
 
 pub loop-i-smaller : goal.loop-i-smaller
 loop-i-smaller g c = ranks_fewer _ _ _ _ c.loop-i.invariant.1.as_many c.loop-i.invariant.0 c.in-Some.ensures.0
@@ -28,6 +28,6 @@ loop-i-preserved g c =
 pub returns : goal.returns
 returns g c =
     record {
-      yes = λ t. ranks_bindings _ _ _ _ _ c.requires.laid.few c.requires.classes c.loop-i.invariant.1 (c.all-ranked.ensures.yes t);
-      no = λ t. let u = c.all-ranked.ensures.no t in stuck_fails _ _ _ _ _ u.0 c.requires.laid.terms c.requires.laid.ends c.requires.classes c.in-default.ensures u.1;
+      yes = λ t. ranks_bindings _ _ _ _ _ c.requires.laid.few c.requires.classes c.loop-i.invariant.1 (c.all_ranked.ensures.yes t);
+      no = λ t. let u = c.all_ranked.ensures.no t in stuck_fails _ _ _ _ _ u.0 c.requires.laid.terms c.requires.laid.ends c.requires.classes c.in_default.ensures u.1;
     }

@@ -29,8 +29,8 @@ loop-k-preserved g c =
       λ u h. left_need _ _ _ _ _ _ (omega arith) (left_turn _ _ _ _ _ _ _ f c.loop-k.invariant.0 (omega arith) (c.loop-k.invariant.1 u h)).1,
     )
 
-pub overflow-cast-end : goal.overflow-cast-end
-overflow-cast-end g c =
+pub overflow_cast-end : goal.overflow_cast-end
+overflow_cast-end g c =
     let i : c.loop-i.i - 1 < length c.args.codes.now = omega (arith, c.loop-i.invariant.0) in
     let t = stands_at (g.S.Signature.arities c.args.signature.now) c.args.codes.now (c.loop-i.i - 1) c.requires.terms i in
     let b = left_inside _ _ _ _ _ (c.loop-k.invariant.1 t.0 t.1) in

@@ -4,8 +4,8 @@ use Rattle.polynomials.proofs.Sums.{within, fits, turned}
 use Rattle.polynomials.proofs.table.Table.add_product.Goals as goal
 use Rattle.polynomials.proofs.table.Table.add_product.Goals.{then-y-ne0, else-y-ne0, then-x-ne0+else-loop-j-test, else-x-ne0}
 
-pub overflow-mul-self : goal.overflow-mul-self
-overflow-mul-self c =
+pub overflow_mul-self : goal.overflow_mul-self
+overflow_mul-self c =
     let w = within c.args.a.now.cells c.args.b.now.cells c.loop-i.i c.loop-j.j (omega arith) (omega arith) c.requires.apart c.if-x-ne0.true c.if-y-ne0.true in
     omega (
       arith,
@@ -17,8 +17,8 @@ overflow-mul-self c =
 pub bounds-self-i : goal.bounds-self-i
 bounds-self-i c = within c.args.a.now.cells c.args.b.now.cells c.loop-i.i c.loop-j.j (omega arith) (omega arith) c.requires.apart c.if-x-ne0.true c.if-y-ne0.true
 
-pub overflow-add-self-then-y-ne0 : goal.overflow-add-self-then-y-ne0
-overflow-add-self-then-y-ne0 c =
+pub overflow_add-self-then-y-ne0 : goal.overflow_add-self-then-y-ne0
+overflow_add-self-then-y-ne0 c =
     let w = within c.args.a.now.cells c.args.b.now.cells c.loop-i.i c.loop-j.j (omega arith) (omega arith) c.requires.apart c.if-x-ne0.true c.if-y-ne0.true in
     omega (
       arith,

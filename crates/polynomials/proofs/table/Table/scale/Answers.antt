@@ -2,8 +2,8 @@ use Rattle.std.proofs.Common.{◌≡◌, ◌*◌, get_or, ap, ◌∙◌, mul_com
 use Rattle.polynomials.proofs.Tables.{scaled_done, scaled_left}
 use Rattle.polynomials.proofs.table.Table.scale.Goals as goal
 
-pub overflow-mul-self : goal.overflow-mul-self
-overflow-mul-self c =
+pub overflow_mul-self : goal.overflow_mul-self
+overflow_mul-self c =
     let same = c.loop-k.invariant.1 c.loop-k.k (omega arith) in
     let e : get_or c.loop-k.self.cells c.loop-k.k 0 * c.args.c ≡ c.args.c * get_or c.args.self.now.cells c.loop-k.k 0 =
     ap (λ n. n * c.args.c) same ∙ mul_comm (get_or c.args.self.now.cells c.loop-k.k 0) c.args.c in

@@ -8,19 +8,19 @@ loop-k-init c p q room = subst (Holds c.args.self.now.cells) (sym (raised_start 
 
 pub times-requires : goal.times-requires
 times-requires c = (
-  raised c.requires.0 c.requires.1 c.loop-k.-k,
+  raised c.requires.0 c.requires.1 c.loop-k._k,
   c.requires.1,
-  turn_room c.args.self.now.cells c.args.base.now.cells c.loop-k.self.cells c.args.exponent c.requires.0 c.requires.1 c.requires.2 c.loop-k.-k (omega arith) (c.loop-k.invariant c.requires.0 c.requires.1 c.requires.2),
+  turn_room c.args.self.now.cells c.args.base.now.cells c.loop-k.self.cells c.args.exponent c.requires.0 c.requires.1 c.requires.2 c.loop-k._k (omega arith) (c.loop-k.invariant c.requires.0 c.requires.1 c.requires.2),
 )
 
 pub loop-k-preserved : goal.loop-k-preserved
 loop-k-preserved c p q room =
-    subst (Holds c.times.new.self.cells) (sym (raised_more p q c.loop-k.-k))
-    (c.times.ensures (raised p q c.loop-k.-k) q
-    (turn_room c.args.self.now.cells c.args.base.now.cells c.loop-k.self.cells c.args.exponent p q room c.loop-k.-k (omega arith) (c.loop-k.invariant p q room)))
+    subst (Holds c.times.new.self.cells) (sym (raised_more p q c.loop-k._k))
+    (c.times.ensures (raised p q c.loop-k._k) q
+    (turn_room c.args.self.now.cells c.args.base.now.cells c.loop-k.self.cells c.args.exponent p q room c.loop-k._k (omega arith) (c.loop-k.invariant p q room)))
 
 pub returns : goal.returns
 returns c p q room =
-    let e : c.loop-k.-k ≡ c.args.exponent = omega arith in
+    let e : c.loop-k._k ≡ c.args.exponent = omega arith in
     holds_power c.args.self.now.cells c.args.base.now.cells c.loop-k.self.cells c.args.exponent p q room
     (subst (λ n. Holds c.loop-k.self.cells (raised p q n)) e (c.loop-k.invariant p q room))

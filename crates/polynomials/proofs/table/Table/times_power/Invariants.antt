@@ -5,4 +5,4 @@ use Rattle.polynomials.proofs.table.Table.times_power.Given as goal
 
 abbrev pub invariant-loop-k : goal.invariant-loop-k
 invariant-loop-k l =
-    (p q : Polynomial) → PowerRoom l.initial.self.cells l.base.cells l.exponent p q → Holds l.self.cells (raised p q l.-k)
+    (p q : Polynomial) → PowerRoom l.initial.self.cells l.base.cells l.exponent p q → Holds l.self.cells (raised p q l._k)
