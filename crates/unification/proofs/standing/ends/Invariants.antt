@@ -6,7 +6,7 @@ use Rattle.unification.proofs.standing.ends.Given as goal
 
 -- so many arguments are left, and they end where the term does
 abbrev pub invariant-loop-k : goal.invariant-loop-k
-invariant-loop-k g l = (l.i < l.e) × ((t : Term) → Stands (g.S.Signature.arities l.signature) l.codes l.i t → Left (g.S.Signature.arities l.signature) l.codes l.e (l.many - l.-k) (l.i + size t))
+invariant-loop-k g l = (l.i < l.e) × ((t : Term) → Stands (g.S.Signature.arities l.signature) l.codes l.i t → Left (g.S.Signature.arities l.signature) l.codes l.e (l.many - l._k) (l.i + size t))
 
 -- the table is filled from i on
 abbrev pub invariant-loop-i : goal.invariant-loop-i
