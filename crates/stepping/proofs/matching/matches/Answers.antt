@@ -10,21 +10,21 @@ pub loop-i-init : goal.loop-i-init
 loop-i-init c = inv_start _ _ _ _
 
 pub bounds-bytes-j : goal.bounds-bytes-j
-bounds-bytes-j c = inv_index _ _ _ _ c.requires.0 c.requires.1 c.loop-i.i c.loop-i.j c.loop-i.bindings c.loop-i.invariant c.loop-i-test.true
+bounds-bytes-j c = inv_index _ _ _ _ c.requires.term c.requires.begins c.loop-i.i c.loop-i.j c.loop-i.bindings c.loop-i.invariant c.loop-i-test.true
 
 pub returns-then-bytes-j : goal.returns-then-bytes-j
 returns-then-bytes-j c =
-    inv_symbol_clash _ _ _ _ c.requires.0 c.requires.1 c.loop-i.i c.loop-i.j c.loop-i.bindings c.loop-i.invariant c.loop-i-test.true c.if-byte-lt-VARIABLE.true c.if-bytes-j.true
+    inv_symbol_clash _ _ _ _ c.requires.term c.requires.begins c.loop-i.i c.loop-i.j c.loop-i.bindings c.loop-i.invariant c.loop-i-test.true c.if-byte-lt-VARIABLE.true c.if-bytes-j.true
 
 pub returns-in_default : goal.returns-in_default
 returns-in_default c =
-    absurd (inv_some _ _ _ _ c.requires.0 c.requires.1 c.loop-i.i c.loop-i.j c.loop-i.bindings c.loop-i.invariant c.loop-i-test.true (first_from (signature_of c.args.book.now.tables.bytes.now) c.args.variables c.args.bytes.now c.loop-i.j None c.in_default.ensures))
+    absurd (inv_some _ _ _ _ c.requires.term c.requires.begins c.loop-i.i c.loop-i.j c.loop-i.bindings c.loop-i.invariant c.loop-i-test.true (first_from (signature_of c.args.book.now.tables.bytes.now) c.args.variables c.args.bytes.now c.loop-i.j None c.in_default.ensures))
 
 pub bind-requires : goal.bind-requires
 bind-requires c = (
-  inv_small _ _ _ _ c.requires.0 c.requires.1 c.loop-i.i c.loop-i.j c.loop-i.bindings c.loop-i.invariant c.loop-i-test.true c.if-byte-lt-VARIABLE.false,
+  inv_small _ _ _ _ c.requires.term c.requires.begins c.loop-i.i c.loop-i.j c.loop-i.bindings c.loop-i.invariant c.loop-i-test.true c.if-byte-lt-VARIABLE.false,
   (
-    inv_part _ _ _ _ c.requires.0 c.requires.1 c.loop-i.i c.loop-i.j c.loop-i.bindings c.loop-i.invariant c.loop-i-test.true c.if-byte-lt-VARIABLE.false
+    inv_part _ _ _ _ c.requires.term c.requires.begins c.loop-i.i c.loop-i.j c.loop-i.bindings c.loop-i.invariant c.loop-i-test.true c.if-byte-lt-VARIABLE.false
         c.in-Some.len _ refl refl (first_from (signature_of c.args.book.now.tables.bytes.now) c.args.variables c.args.bytes.now c.loop-i.j (Some c.in-Some.len) c.in-Some.ensures),
     c.loop-i.invariant.within,
   ),
@@ -32,7 +32,7 @@ bind-requires c = (
 
 pub returns-then-not-bind : goal.returns-then-not-bind
 returns-then-not-bind c =
-    inv_variable_clash _ _ _ _ c.requires.0 c.requires.1 c.loop-i.i c.loop-i.j c.loop-i.bindings c.loop-i.invariant c.loop-i-test.true c.if-byte-lt-VARIABLE.false
+    inv_variable_clash _ _ _ _ c.requires.term c.requires.begins c.loop-i.i c.loop-i.j c.loop-i.bindings c.loop-i.invariant c.loop-i-test.true c.if-byte-lt-VARIABLE.false
     c.in-Some.len (record { start = c.loop-i.j; len = c.in-Some.len }) refl refl (first_from (signature_of c.args.book.now.tables.bytes.now) c.args.variables c.args.bytes.now c.loop-i.j (Some c.in-Some.len) c.in-Some.ensures) c.bind.new.bindings c.if-not-bind.ensures
 
 pub overflow_add-j-else-byte-lt-VARIABLE : goal.overflow_add-j-else-byte-lt-VARIABLE
@@ -45,10 +45,10 @@ loop-i-preserved c =
     elim c.if-byte-lt-VARIABLE.branch [
       | then-byte-lt-VARIABLE+else-bytes-j w ↦
           rw (w.j-is, w.bindings-is)
-          (inv_symbol _ _ _ _ c.requires.0 c.requires.1 c.loop-i.i c.loop-i.j c.loop-i.bindings c.loop-i.invariant c.loop-i-test.true w.if-byte-lt-VARIABLE.true w.if-bytes-j.false)
+          (inv_symbol _ _ _ _ c.requires.term c.requires.begins c.loop-i.i c.loop-i.j c.loop-i.bindings c.loop-i.invariant c.loop-i-test.true w.if-byte-lt-VARIABLE.true w.if-bytes-j.false)
       | else-byte-lt-VARIABLE+in-Some+else-not-bind w ↦
           rw (w.j-is, w.bindings-is)
-          (inv_variable _ _ _ _ c.requires.0 c.requires.1 c.loop-i.i c.loop-i.j c.loop-i.bindings c.loop-i.invariant c.loop-i-test.true w.if-byte-lt-VARIABLE.false
+          (inv_variable _ _ _ _ c.requires.term c.requires.begins c.loop-i.i c.loop-i.j c.loop-i.bindings c.loop-i.invariant c.loop-i-test.true w.if-byte-lt-VARIABLE.false
           w.in-Some.len (record { start = c.loop-i.j; len = w.in-Some.len }) refl refl (first_from (signature_of c.args.book.now.tables.bytes.now) c.args.variables c.args.bytes.now c.loop-i.j (Some w.in-Some.len) w.in-Some.ensures) w.bind.new.bindings w.if-not-bind.ensures)
     ]
 

@@ -12,15 +12,16 @@ returns-in_default c t reads = none_below_all (rules_of c.args.book.now.tables.b
 
 pub matches-requires : goal.matches-requires
 matches-requires c =
-    can_match c.args.book.now.tables.bytes.now c.args.variables c.args.term.now c.loop-rule.rule c.args.place c.requires.0.0 c.requires.0.1 c.requires.1
-    c.in-Some.sides.left.now c.in-Some.sides.right.now c.in-Some.ensures
+    let m = can_match c.args.book.now.tables.bytes.now c.args.variables c.args.term.now c.loop-rule.rule c.args.place c.requires.term.0 c.requires.term.1 c.requires.place_in_bounds
+    c.in-Some.sides.left.now c.in-Some.sides.right.now c.in-Some.ensures in
+    record { term = m.0; begins = m.1 }
 
 pub returns-in-Some-matches : goal.returns-in-Some-matches
 returns-in-Some-matches c t reads = record {
   start_is = refl;
-  len_is = matched_length c.args.book.now.tables.bytes.now c.args.variables c.args.term.now c.loop-rule.rule c.args.place t reads c.requires.1
+  len_is = matched_length c.args.book.now.tables.bytes.now c.args.variables c.args.term.now c.loop-rule.rule c.args.place t reads c.requires.place_in_bounds
       c.in-Some.sides.left.now c.in-Some.sides.right.now c.in-Some.ensures c.in-Some-matches.found c.in-Some-matches.ensures;
-  matches = matched c.args.book.now.tables.bytes.now c.args.variables c.args.term.now c.loop-rule.rule c.args.place t reads c.requires.1
+  matches = matched c.args.book.now.tables.bytes.now c.args.variables c.args.term.now c.loop-rule.rule c.args.place t reads c.requires.place_in_bounds
       c.in-Some.sides.left.now c.in-Some.sides.right.now c.in-Some.ensures c.in-Some-matches.found c.in-Some-matches.ensures;
   lowest = c.loop-rule.invariant t reads;
 }
@@ -28,7 +29,7 @@ returns-in-Some-matches c t reads = record {
 pub loop-rule-preserved : goal.loop-rule-preserved
 loop-rule-preserved c t reads =
     none_below_more (rules_of c.args.book.now.tables.bytes.now) t c.args.place c.loop-rule.rule (c.loop-rule.invariant t reads)
-    (not_matched c.args.book.now.tables.bytes.now c.args.variables c.args.term.now c.loop-rule.rule c.args.place t reads c.requires.1
+    (not_matched c.args.book.now.tables.bytes.now c.args.variables c.args.term.now c.loop-rule.rule c.args.place t reads c.requires.place_in_bounds
     c.in-Some.sides.left.now c.in-Some.sides.right.now c.in-Some.ensures c.in_default-matches.ensures)
 
 pub returns : goal.returns

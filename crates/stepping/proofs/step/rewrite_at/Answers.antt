@@ -15,8 +15,9 @@ returns-in_default c =
 pub matches-requires : goal.matches-requires
 matches-requires c =
     let t = c.if-not-is_term.ensures.0 refl in
-    can_match c.args.book.now.tables.bytes.now c.args.variables c.args.term.now c.args.rule c.args.place t.0 t.1 c.if-place-term.false
-    c.in-Some.sides.left.now c.in-Some.sides.right.now c.in-Some.ensures
+    let m = can_match c.args.book.now.tables.bytes.now c.args.variables c.args.term.now c.args.rule c.args.place t.0 t.1 c.if-place-term.false
+    c.in-Some.sides.left.now c.in-Some.sides.right.now c.in-Some.ensures in
+    record { term = m.0; begins = m.1 }
 
 pub returns-in_default-matches : goal.returns-in_default-matches
 returns-in_default-matches c =
@@ -28,8 +29,9 @@ returns-in_default-matches c =
 pub write_replaced-requires : goal.write_replaced-requires
 write_replaced-requires c =
     let t = c.if-not-is_term.ensures.0 refl in
-    can_write c.args.book.now.tables.bytes.now c.args.variables c.args.term.now c.args.rule c.args.place t.0 t.1 c.if-place-term.false
-    c.in-Some.sides.left.now c.in-Some.sides.right.now c.in-Some.ensures c.in-Some-matches.found c.in-Some-matches.ensures
+    let w = can_write c.args.book.now.tables.bytes.now c.args.variables c.args.term.now c.args.rule c.args.place t.0 t.1 c.if-place-term.false
+    c.in-Some.sides.left.now c.in-Some.sides.right.now c.in-Some.ensures c.in-Some-matches.found c.in-Some-matches.ensures in
+    record { len_in_bounds = w.0; all_within = w.1; side_bytes = w.2 }
 
 pub returns-in-Some-write_replaced : goal.returns-in-Some-write_replaced
 returns-in-Some-write_replaced c =

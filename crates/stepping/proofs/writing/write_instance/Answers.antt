@@ -14,7 +14,7 @@ write-end-requires c =
     let more = length_more f c.args.right.now c.loop-i.i c.loop-i-test.true in
     let part = expand_part f c.args.right.now (c.loop-i.i + 1) in
     let piece = ap length {y = piece_of c.args.bindings.now c.args.bytes.now (get_or c.args.right.now c.loop-i.i 0)} c.piece.ensures in
-    omega (arith, c.loop-i.invariant.0, c.requires.2, c.loop-i.auto.page)
+    omega (arith, c.loop-i.invariant.0, c.requires.right_in_bounds, c.loop-i.auto.page)
 
 pub loop-i-preserved : goal.loop-i-preserved
 loop-i-preserved c =

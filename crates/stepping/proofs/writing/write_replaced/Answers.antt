@@ -7,11 +7,11 @@ use Rattle.stepping.proofs.writing.write_replaced.Goals as goal
 
 pub returns-then-around-page : goal.returns-then-around-page
 returns-then-around-page c =
-    no_room c.args.term.now c.args.place c.args.found.now.len c.requires.0
+    no_room c.args.term.now c.args.place c.args.found.now.len c.requires.len_in_bounds
     (instance_bytes c.args.found.now.bindings (drop c.args.place c.args.term.now) c.args.right.now) c.args.page.now (omega (arith, c.if-around-page.true))
 
 pub instance_fits-requires : goal.instance_fits-requires
-instance_fits-requires c = (c.requires.2, subst (λ w. AllWithin w c.args.found.now.bindings) (sym (take_rest c.args.term.now c.args.place)) c.requires.1)
+instance_fits-requires c = record { side_bytes = c.requires.side_bytes; all_within = subst (λ w. AllWithin w c.args.found.now.bindings) (sym (take_rest c.args.term.now c.args.place)) c.requires.all_within }
 
 pub returns-then-not-instance_fits : goal.returns-then-not-instance_fits
 returns-then-not-instance_fits c =
@@ -21,17 +21,18 @@ returns-then-not-instance_fits c =
     let new = instance_bytes found.bindings (drop place term) c.args.right.now in
     let room = length c.args.page.now - (length term - found.len) in
     let fits = subst (λ w. Decides false (length (instance_bytes found.bindings w c.args.right.now) ≤ room)) (take_rest term place) c.if-not-instance_fits.ensures in
-    no_room term place found.len c.requires.0 new c.args.page.now (omega (arith, too_long (length new) room fits, c.if-around-page.false))
+    no_room term place found.len c.requires.len_in_bounds new c.args.page.now (omega (arith, too_long (length new) room fits, c.if-around-page.false))
 
 pub write_instance-second-requires : goal.write_instance-second-requires
 write_instance-second-requires c =
     let term = c.args.term.now in
     let place = c.args.place in
-    let e : place - 0 ≡ place = omega arith in (
-      c.requires.2,
-      subst (λ w. AllWithin w c.args.found.now.bindings) (sym (take_rest term place)) c.requires.1,
-      omega (arith, c.requires.0, c.if-not-instance_fits.ensures.0 refl, c.if-around-page.false, c.write-first.ensures.end, c.write-first.auto.page, ap (λ k. length (take k term)) e, length-take-le place term (omega (arith, c.requires.0))),
-    )
+    let e : place - 0 ≡ place = omega arith in
+    record {
+      side_bytes = c.requires.side_bytes;
+      all_within = subst (λ w. AllWithin w c.args.found.now.bindings) (sym (take_rest term place)) c.requires.all_within;
+      right_in_bounds = omega (arith, c.requires.len_in_bounds, c.if-not-instance_fits.ensures.0 refl, c.if-around-page.false, c.write-first.ensures.end, c.write-first.auto.page, ap (λ k. length (take k term)) e, length-take-le place term (omega (arith, c.requires.len_in_bounds)));
+    }
 
 pub returns : goal.returns
 returns c =
@@ -42,7 +43,7 @@ returns c =
     let e = take_rest term place in
     let new = instance_bytes found.bindings (drop place term) right in
     let room = length c.args.page.now - (length term - found.len) in
-    three_writes term place found.len c.requires.0 new
+    three_writes term place found.len c.requires.len_in_bounds new
     c.args.page.now c.write-first.new.page c.write_instance-second.new.page c.write.new.page
     c.write-first.result c.write_instance-second.result c.write.result
     c.write-first.ensures.end c.write-first.ensures.written
