@@ -8,16 +8,16 @@ use Rattle.orders.proofs.comparing.+greater_greater_by_arguments_greater_or_same
 
 -- ── greater ──
 
-pub greater-returns-then-is-empty : goal.greater-returns-then-is-empty
-greater-returns-then-is-empty t c = λ a b p q.
+pub greater-returns-then-is_empty : goal.greater-returns-then-is_empty
+greater-returns-then-is_empty t c = λ a b p q.
     let bytes = c.args.order.now.book.tables.bytes.now in
-    let none = not_empty (signature_of bytes) c.args.s.now a (eqb-true (length c.args.s.now) 0 (sym c.if-is-empty.ensures)) p in
+    let none = not_empty (signature_of bytes) c.args.s.now a (eqb-true (length c.args.s.now) 0 (sym c.if-is_empty.ensures)) p in
     says_no (Greater (rank_of bytes) a b) (λ g. none)
 
-pub greater-returns-then-is-empty-2 : goal.greater-returns-then-is-empty-2
-greater-returns-then-is-empty-2 t c = λ a b p q.
+pub greater-returns-then-is_empty-2 : goal.greater-returns-then-is_empty-2
+greater-returns-then-is_empty-2 t c = λ a b p q.
     let bytes = c.args.order.now.book.tables.bytes.now in
-    let none = not_empty (signature_of bytes) c.args.t.now b (eqb-true (length c.args.t.now) 0 (sym c.if-is-empty-2.ensures)) q in
+    let none = not_empty (signature_of bytes) c.args.t.now b (eqb-true (length c.args.t.now) 0 (sym c.if-is_empty-2.ensures)) q in
     says_no (Greater (rank_of bytes) a b) (λ g. none)
 
 pub greater-returns-then-f-ge-VARIABLE : goal.greater-returns-then-f-ge-VARIABLE
@@ -28,7 +28,7 @@ greater-returns-then-f-ge-VARIABLE t c = λ a b p q.
 pub greater-returns-then-f-g : goal.greater-returns-then-f-g
 greater-returns-then-f-g t c =
     let bytes = c.args.order.now.book.tables.bytes.now in
-    same_head (signature_of bytes) (rank_of bytes) c.args.s.now c.args.t.now c.greater-by-arguments.result c.greater-by-arguments.ensures
+    same_head (signature_of bytes) (rank_of bytes) c.args.s.now c.args.t.now c.greater_by_arguments.result c.greater_by_arguments.ensures
     (omega (arith, c.if-f-ge-VARIABLE.false)) c.if-f-g.true
 
 pub greater-returns-then-higher : goal.greater-returns-then-higher
@@ -36,7 +36,7 @@ greater-returns-then-higher t c =
     let bytes = c.args.order.now.book.tables.bytes.now in
     let f = get_or c.args.s.now 0 0 in
     let g = get_or c.args.t.now 0 0 in
-    higher_head (signature_of bytes) (rank_of bytes) c.args.s.now c.args.t.now c.greater-than-all.result c.greater-than-all.ensures
+    higher_head (signature_of bytes) (rank_of bytes) c.args.s.now c.args.t.now c.greater_than_all.result c.greater_than_all.ensures
     (omega (arith, c.if-f-ge-VARIABLE.false))
     (yes_of c.higher.result ((g < 128) × (rank_of bytes g < rank_of bytes f)) c.if-higher.true c.higher.ensures)
 
@@ -45,114 +45,114 @@ greater-returns t c =
     let bytes = c.args.order.now.book.tables.bytes.now in
     let f = get_or c.args.s.now 0 0 in
     let g = get_or c.args.t.now 0 0 in
-    neither (signature_of bytes) (rank_of bytes) c.args.s.now c.args.t.now c.some-at-least.result c.some-at-least.ensures
+    neither (signature_of bytes) (rank_of bytes) c.args.s.now c.args.t.now c.some_at_least.result c.some_at_least.ensures
     (omega (arith, c.if-f-ge-VARIABLE.false))
     c.if-f-g.false
     (no_of c.higher.result ((g < 128) × (rank_of bytes g < rank_of bytes f)) c.if-higher.false c.higher.ensures)
 
 -- ── greater by the arguments ──
 
-pub greater-by-arguments-returns-then-i-s : goal.greater-by-arguments-returns-then-i-s
-greater-by-arguments-returns-then-i-s t c = λ f us vs xs ys p q m ex ey.
+pub greater_by_arguments-returns-then-i-s : goal.greater_by_arguments-returns-then-i-s
+greater_by_arguments-returns-then-i-s t c = λ f us vs xs ys p q m ex ey.
     let bytes = c.args.order.now.book.tables.bytes.now in
     left_ends (signature_of bytes) (rank_of bytes) c.args.s.now c.args.t.now c.args.i f us vs xs ys p q m ex ey c.if-i-s.true
 
-pub greater-by-arguments-returns-then-i-t : goal.greater-by-arguments-returns-then-i-t
-greater-by-arguments-returns-then-i-t t c = λ f us vs xs ys p q m ex ey.
+pub greater_by_arguments-returns-then-i-t : goal.greater_by_arguments-returns-then-i-t
+greater_by_arguments-returns-then-i-t t c = λ f us vs xs ys p q m ex ey.
     let bytes = c.args.order.now.book.tables.bytes.now in
     right_ends (signature_of bytes) (rank_of bytes) c.args.s.now c.args.t.now c.args.i f us vs xs ys p q m ex ey c.if-i-t.true
 
-pub greater-by-arguments-returns-then-m-eq0 : goal.greater-by-arguments-returns-then-m-eq0
-greater-by-arguments-returns-then-m-eq0 t c = λ f us vs xs ys p q k ex ey.
+pub greater_by_arguments-returns-then-m-eq0 : goal.greater_by_arguments-returns-then-m-eq0
+greater_by_arguments-returns-then-m-eq0 t c = λ f us vs xs ys p q k ex ey.
     let bytes = c.args.order.now.book.tables.bytes.now in
     let sig = signature_of bytes in
     let i = c.args.i in
-    let m = c.first-length-m.result in
-    let n = c.first-length-n.result in
-    let a = ahead sig (rank_of bytes) c.args.s.now c.args.t.now i f us vs xs ys p q k ex ey (omega (arith, c.if-i-s.false)) (omega (arith, c.if-i-t.false)) m n c.first-length-m.ensures.first c.first-length-n.ensures.first in
+    let m = c.first_length-m.result in
+    let n = c.first_length-n.result in
+    let a = ahead sig (rank_of bytes) c.args.s.now c.args.t.now i f us vs xs ys p q k ex ey (omega (arith, c.if-i-s.false)) (omega (arith, c.if-i-t.false)) m n c.first_length-m.ensures.first c.first_length-n.ensures.first in
     absurd (left_something sig (rank_of bytes) c.args.s.now c.args.t.now i m n f us vs p q a c.if-m-eq0.true)
 
-pub greater-by-arguments-returns-then-n-eq0 : goal.greater-by-arguments-returns-then-n-eq0
-greater-by-arguments-returns-then-n-eq0 t c = λ f us vs xs ys p q k ex ey.
+pub greater_by_arguments-returns-then-n-eq0 : goal.greater_by_arguments-returns-then-n-eq0
+greater_by_arguments-returns-then-n-eq0 t c = λ f us vs xs ys p q k ex ey.
     let bytes = c.args.order.now.book.tables.bytes.now in
     let sig = signature_of bytes in
     let i = c.args.i in
-    let m = c.first-length-m.result in
-    let n = c.first-length-n.result in
-    let a = ahead sig (rank_of bytes) c.args.s.now c.args.t.now i f us vs xs ys p q k ex ey (omega (arith, c.if-i-s.false)) (omega (arith, c.if-i-t.false)) m n c.first-length-m.ensures.first c.first-length-n.ensures.first in
+    let m = c.first_length-m.result in
+    let n = c.first_length-n.result in
+    let a = ahead sig (rank_of bytes) c.args.s.now c.args.t.now i f us vs xs ys p q k ex ey (omega (arith, c.if-i-s.false)) (omega (arith, c.if-i-t.false)) m n c.first_length-m.ensures.first c.first_length-n.ensures.first in
     absurd (right_something sig (rank_of bytes) c.args.s.now c.args.t.now i m n f us vs p q a c.if-n-eq0.true)
 
-pub greater-by-arguments-returns-then-same : goal.greater-by-arguments-returns-then-same
-greater-by-arguments-returns-then-same t c = λ f us vs xs ys p q k ex ey.
+pub greater_by_arguments-returns-then-same : goal.greater_by_arguments-returns-then-same
+greater_by_arguments-returns-then-same t c = λ f us vs xs ys p q k ex ey.
     let bytes = c.args.order.now.book.tables.bytes.now in
     let sig = signature_of bytes in
     let i = c.args.i in
-    let m = c.first-length-m.result in
-    let n = c.first-length-n.result in
-    let a = ahead sig (rank_of bytes) c.args.s.now c.args.t.now i f us vs xs ys p q k ex ey (omega (arith, c.if-i-s.false)) (omega (arith, c.if-i-t.false)) m n c.first-length-m.ensures.first c.first-length-n.ensures.first in
-    next_same sig (rank_of bytes) c.args.s.now c.args.t.now i m n f us vs p q a c.greater-by-arguments.result (c.same.ensures.0 c.if-same.true) c.greater-by-arguments.ensures
+    let m = c.first_length-m.result in
+    let n = c.first_length-n.result in
+    let a = ahead sig (rank_of bytes) c.args.s.now c.args.t.now i f us vs xs ys p q k ex ey (omega (arith, c.if-i-s.false)) (omega (arith, c.if-i-t.false)) m n c.first_length-m.ensures.first c.first_length-n.ensures.first in
+    next_same sig (rank_of bytes) c.args.s.now c.args.t.now i m n f us vs p q a c.greater_by_arguments.result (c.same.ensures.0 c.if-same.true) c.greater_by_arguments.ensures
 
-pub greater-by-arguments-returns-then-greater : goal.greater-by-arguments-returns-then-greater
-greater-by-arguments-returns-then-greater t c = λ f us vs xs ys p q k ex ey.
+pub greater_by_arguments-returns-then-greater : goal.greater_by_arguments-returns-then-greater
+greater_by_arguments-returns-then-greater t c = λ f us vs xs ys p q k ex ey.
     let bytes = c.args.order.now.book.tables.bytes.now in
     let sig = signature_of bytes in
     let i = c.args.i in
-    let m = c.first-length-m.result in
-    let n = c.first-length-n.result in
-    let a = ahead sig (rank_of bytes) c.args.s.now c.args.t.now i f us vs xs ys p q k ex ey (omega (arith, c.if-i-s.false)) (omega (arith, c.if-i-t.false)) m n c.first-length-m.ensures.first c.first-length-n.ensures.first in
-    next_greater sig (rank_of bytes) c.args.s.now c.args.t.now i m n f us vs p q a c.greater.result c.greater-than-all.result c.if-greater.true c.greater.ensures c.greater-than-all.ensures
+    let m = c.first_length-m.result in
+    let n = c.first_length-n.result in
+    let a = ahead sig (rank_of bytes) c.args.s.now c.args.t.now i f us vs xs ys p q k ex ey (omega (arith, c.if-i-s.false)) (omega (arith, c.if-i-t.false)) m n c.first_length-m.ensures.first c.first_length-n.ensures.first in
+    next_greater sig (rank_of bytes) c.args.s.now c.args.t.now i m n f us vs p q a c.greater.result c.greater_than_all.result c.if-greater.true c.greater.ensures c.greater_than_all.ensures
 
-pub greater-by-arguments-returns : goal.greater-by-arguments-returns
-greater-by-arguments-returns t c = λ f us vs xs ys p q k ex ey.
+pub greater_by_arguments-returns : goal.greater_by_arguments-returns
+greater_by_arguments-returns t c = λ f us vs xs ys p q k ex ey.
     let bytes = c.args.order.now.book.tables.bytes.now in
     let sig = signature_of bytes in
     let i = c.args.i in
-    let m = c.first-length-m.result in
-    let n = c.first-length-n.result in
-    let a = ahead sig (rank_of bytes) c.args.s.now c.args.t.now i f us vs xs ys p q k ex ey (omega (arith, c.if-i-s.false)) (omega (arith, c.if-i-t.false)) m n c.first-length-m.ensures.first c.first-length-n.ensures.first in
-    next_less sig (rank_of bytes) c.args.s.now c.args.t.now i m n f us vs p q a c.greater.result c.some-at-least.result c.if-greater.false (no_of c.same.result _ c.if-same.false c.same.ensures) c.greater.ensures c.some-at-least.ensures
+    let m = c.first_length-m.result in
+    let n = c.first_length-n.result in
+    let a = ahead sig (rank_of bytes) c.args.s.now c.args.t.now i f us vs xs ys p q k ex ey (omega (arith, c.if-i-s.false)) (omega (arith, c.if-i-t.false)) m n c.first_length-m.ensures.first c.first_length-n.ensures.first in
+    next_less sig (rank_of bytes) c.args.s.now c.args.t.now i m n f us vs p q a c.greater.result c.some_at_least.result c.if-greater.false (no_of c.same.result _ c.if-same.false c.same.ensures) c.greater.ensures c.some_at_least.ensures
 
 -- ── greater or the same ──
 
-pub greater-or-same-returns-then-same : goal.greater-or-same-returns-then-same
-greater-or-same-returns-then-same t c = λ a b p q.
+pub greater_or_same-returns-then-same : goal.greater_or_same-returns-then-same
+greater_or_same-returns-then-same t c = λ a b p q.
     let bytes = c.args.order.now.book.tables.bytes.now in
     same_yes (signature_of bytes) (rank_of bytes) c.args.s.now c.args.t.now a b (c.same.ensures.0 c.if-same.true) p q
 
 -- ── greater than all ──
 
-pub greater-than-all-returns-then-n-eq0 : goal.greater-than-all-returns-then-n-eq0
-greater-than-all-returns-then-n-eq0 t c = λ a bs p w e.
+pub greater_than_all-returns-then-n-eq0 : goal.greater_than_all-returns-then-n-eq0
+greater_than_all-returns-then-n-eq0 t c = λ a bs p w e.
     let bytes = c.args.order.now.book.tables.bytes.now in
-    all_none (signature_of bytes) (rank_of bytes) c.args.ts.now c.first-length-n.result c.first-length-n.ensures.first c.if-n-eq0.true a bs w e
+    all_none (signature_of bytes) (rank_of bytes) c.args.ts.now c.first_length-n.result c.first_length-n.ensures.first c.if-n-eq0.true a bs w e
 
-pub greater-than-all-returns-then-not-greater : goal.greater-than-all-returns-then-not-greater
-greater-than-all-returns-then-not-greater t c =
+pub greater_than_all-returns-then-not-greater : goal.greater_than_all-returns-then-not-greater
+greater_than_all-returns-then-not-greater t c =
     let bytes = c.args.order.now.book.tables.bytes.now in
-    all_first (signature_of bytes) (rank_of bytes) c.args.ts.now c.first-length-n.result c.first-length-n.ensures.first c.first-length-n.ensures.inside c.if-n-eq0.false
+    all_first (signature_of bytes) (rank_of bytes) c.args.ts.now c.first_length-n.result c.first_length-n.ensures.first c.first_length-n.ensures.inside c.if-n-eq0.false
     c.args.s.now c.greater.result c.if-not-greater.true c.greater.ensures
 
-pub greater-than-all-returns : goal.greater-than-all-returns
-greater-than-all-returns t c =
+pub greater_than_all-returns : goal.greater_than_all-returns
+greater_than_all-returns t c =
     let bytes = c.args.order.now.book.tables.bytes.now in
-    all_later (signature_of bytes) (rank_of bytes) c.args.ts.now c.first-length-n.result c.first-length-n.ensures.first c.first-length-n.ensures.inside c.if-n-eq0.false
-    c.args.s.now c.greater.result c.greater-than-all.result c.if-not-greater.false c.greater.ensures c.greater-than-all.ensures
+    all_later (signature_of bytes) (rank_of bytes) c.args.ts.now c.first_length-n.result c.first_length-n.ensures.first c.first_length-n.ensures.inside c.if-n-eq0.false
+    c.args.s.now c.greater.result c.greater_than_all.result c.if-not-greater.false c.greater.ensures c.greater_than_all.ensures
 
 -- ── some at least ──
 
-pub some-at-least-returns-then-n-eq0 : goal.some-at-least-returns-then-n-eq0
-some-at-least-returns-then-n-eq0 t c = λ xs b w e q.
+pub some_at_least-returns-then-n-eq0 : goal.some_at_least-returns-then-n-eq0
+some_at_least-returns-then-n-eq0 t c = λ xs b w e q.
     let bytes = c.args.order.now.book.tables.bytes.now in
-    some_none (signature_of bytes) (rank_of bytes) c.args.ss.now c.first-length-n.result c.first-length-n.ensures.first c.if-n-eq0.true xs b w e
+    some_none (signature_of bytes) (rank_of bytes) c.args.ss.now c.first_length-n.result c.first_length-n.ensures.first c.if-n-eq0.true xs b w e
 
-pub some-at-least-returns-then-greater-or-same : goal.some-at-least-returns-then-greater-or-same
-some-at-least-returns-then-greater-or-same t c =
+pub some_at_least-returns-then-greater_or_same : goal.some_at_least-returns-then-greater_or_same
+some_at_least-returns-then-greater_or_same t c =
     let bytes = c.args.order.now.book.tables.bytes.now in
-    some_first (signature_of bytes) (rank_of bytes) c.args.ss.now c.first-length-n.result c.first-length-n.ensures.first c.first-length-n.ensures.inside c.if-n-eq0.false
-    c.args.t.now c.greater-or-same.result c.if-greater-or-same.true c.greater-or-same.ensures
+    some_first (signature_of bytes) (rank_of bytes) c.args.ss.now c.first_length-n.result c.first_length-n.ensures.first c.first_length-n.ensures.inside c.if-n-eq0.false
+    c.args.t.now c.greater_or_same.result c.if-greater_or_same.true c.greater_or_same.ensures
 
-pub some-at-least-returns : goal.some-at-least-returns
-some-at-least-returns t c =
+pub some_at_least-returns : goal.some_at_least-returns
+some_at_least-returns t c =
     let bytes = c.args.order.now.book.tables.bytes.now in
-    some_later (signature_of bytes) (rank_of bytes) c.args.ss.now c.first-length-n.result c.first-length-n.ensures.first c.first-length-n.ensures.inside c.if-n-eq0.false
-    c.args.t.now c.greater-or-same.result c.some-at-least.result c.if-greater-or-same.false c.greater-or-same.ensures c.some-at-least.ensures
+    some_later (signature_of bytes) (rank_of bytes) c.args.ss.now c.first_length-n.result c.first_length-n.ensures.first c.first_length-n.ensures.inside c.if-n-eq0.false
+    c.args.t.now c.greater_or_same.result c.some_at_least.result c.if-greater_or_same.false c.greater_or_same.ensures c.some_at_least.ensures

@@ -7,6 +7,6 @@ pub returns : goal.returns
 returns c =
     let sig = signature_of c.args.order.now.book.tables.bytes.now in
     record {
-      inside = omega (arith, c.unwrap-or.ensures, first_inside sig c.args.bytes.now c.first-term-length.result c.first-term-length.ensures);
-      first = λ x xs w e. c.unwrap-or.ensures ∙ first_size sig c.args.bytes.now c.first-term-length.result c.first-term-length.ensures x xs w e;
+      inside = omega (arith, c.unwrap_or.ensures, first_inside sig c.args.bytes.now c.first_term_length.result c.first_term_length.ensures);
+      first = λ x xs w e. c.unwrap_or.ensures ∙ first_size sig c.args.bytes.now c.first_term_length.result c.first_term_length.ensures x xs w e;
     }

@@ -18,8 +18,8 @@ loop-symbol-init c = (
   record { before = []; split = from_the_start c.args.book.now.tables.bytes.now 1 c.fields-symbols.result.reader.at c.fields-symbols.ensures.2; have = λ tag p. tt },
 )
 
-pub has-figures-requires : goal.has-figures-requires
-has-figures-requires c =
+pub has_figures-requires : goal.has_figures-requires
+has_figures-requires c =
     let b = c.args.book.now in
     let t = b.tables in
     let i = c.loop-symbol.invariant in
@@ -28,8 +28,8 @@ has-figures-requires c =
     let split = next_split t.bytes.now r.bytes.now i.0 c.loop-symbol.symbols.tag 1 i.1 r.at c.next.new.self.reader.at c.in-Some.symbol c.in-Some.ensures.answer i.2.before i.2.split in
     record { two = (held_pair t.bytes.now t.arities t.symbols t.rules t.count 1 refl i.2.before (fields_from c.next.new.self.reader.at t.bytes.now 1) l split b.holds).two }
 
-pub returns-then-not-has-figures : goal.returns-then-not-has-figures
-returns-then-not-has-figures c = λ tag small placed.
+pub returns-then-not-has_figures : goal.returns-then-not-has_figures
+returns-then-not-has_figures c = λ tag small placed.
     let b = c.args.book.now in
     let t = b.tables in
     let bs = t.bytes.now in
@@ -44,7 +44,7 @@ returns-then-not-has-figures c = λ tag small placed.
       good = i.2.have tag placed;
       no = λ h. by code c.args.places.now (fields_of bs tag) placed h
           (λ v. let l = small code h in absurd (omega (arith, l, v)))
-          (λ q. never (sym c.if-not-has-figures.true ∙ c.has-figures.ensures.1 q))
+          (λ q. never (sym c.if-not-has_figures.true ∙ c.has_figures.ensures.1 q))
           (cases_Bool (ltb code 128));
       offset = refl;
     }
@@ -60,7 +60,7 @@ loop-symbol-preserved c =
     let r = c.loop-symbol.symbols.reader in
     let code = get_or c.in-Some.symbol.value.now 0 0 in
     let l = located_as c.in-Some.symbol in
-    let yes = c.has-figures.ensures.0 c.if-not-has-figures.false in (
+    let yes = c.has_figures.ensures.0 c.if-not-has_figures.false in (
       c.next.ensures.bytes ∙ i.0,
       c.next.ensures.tag ∙ i.1,
       record {
@@ -75,4 +75,4 @@ returns c = λ tag small placed.
     let bs = c.args.book.now.tables.bytes.now in
     let i = c.loop-symbol.invariant in
     let r = c.loop-symbol.symbols.reader in
-    subst (AllHave (fields_of bs tag)) (sym (none_left bs r.bytes.now i.0 c.loop-symbol.symbols.tag 1 i.1 r.at c.in-default.ensures.answer.0 i.2.before i.2.split)) (i.2.have tag placed)
+    subst (AllHave (fields_of bs tag)) (sym (none_left bs r.bytes.now i.0 c.loop-symbol.symbols.tag 1 i.1 r.at c.in_default.ensures.answer.0 i.2.before i.2.split)) (i.2.have tag placed)

@@ -7,34 +7,34 @@ use Rattle.orders.specs.Polynomials.{MonomialsFit, HasArguments}
 use Rattle.orders.proofs.PathBytes.{no_of}
 use Rattle.orders.proofs.interpretation.check_monomials.Goals as goal
 
-pub returns-then-not-monomials-fit : goal.returns-then-not-monomials-fit
-returns-then-not-monomials-fit c =
-    let n = c.unwrap-or-arity.ensures ∙ ap (λ o. unwrap_or o 0) c.arity.ensures in
+pub returns-then-not-monomials_fit : goal.returns-then-not-monomials_fit
+returns-then-not-monomials_fit c =
+    let n = c.unwrap_or-arity.ensures ∙ ap (λ o. unwrap_or o 0) c.arity.ensures in
     let w = take_rest c.args.field.now.value.now 1 in
-    (inl ((λ f. no_of _ _ c.if-not-monomials-fit.true c.monomials-fit.ensures (subst₂ (λ n w. MonomialsFit n [] (polynomial_from w)) (sym n) (sym w) f)), refl), refl)
+    (inl ((λ f. no_of _ _ c.if-not-monomials_fit.true c.monomials_fit.ensures (subst₂ (λ n w. MonomialsFit n [] (polynomial_from w)) (sym n) (sym w) f)), refl), refl)
 
-pub has-arguments-requires : goal.has-arguments-requires
-has-arguments-requires c =
+pub has_arguments-requires : goal.has_arguments-requires
+has_arguments-requires c =
     let b = c.args.book.now in
     let t = b.tables in
-    let n = c.unwrap-or-arity.ensures ∙ ap (λ o. unwrap_or o 0) c.arity.ensures in
+    let n = c.unwrap_or-arity.ensures ∙ ap (λ o. unwrap_or o 0) c.arity.ensures in
     omega (arith, n, at_most (signature_of t.bytes.now (get_or c.args.field.now.value.now 0 0)) (held_arities t.bytes.now t.arities t.symbols t.rules t.count b.holds _))
   where
     at_most : (o : Option ℕ) → ((n : ℕ) → o ≡ Some n → n ≤ 3) → unwrap_or o 0 ≤ 3
     at_most (Some n) h = h n refl
     at_most None h = omega arith
 
-pub returns-then-not-has-arguments : goal.returns-then-not-has-arguments
-returns-then-not-has-arguments c =
-    let n = c.unwrap-or-arity.ensures ∙ ap (λ o. unwrap_or o 0) c.arity.ensures in
+pub returns-then-not-has_arguments : goal.returns-then-not-has_arguments
+returns-then-not-has_arguments c =
+    let n = c.unwrap_or-arity.ensures ∙ ap (λ o. unwrap_or o 0) c.arity.ensures in
     let w = take_rest c.args.field.now.value.now 1 in
-    let fits = subst₂ (λ n w. MonomialsFit n [] (polynomial_from w)) n w (c.monomials-fit.ensures.0 c.if-not-monomials-fit.false) in
-    (inr (fits, inl ((λ f. no_of _ _ c.if-not-has-arguments.true c.has-arguments.ensures (subst₂ (λ n w. HasArguments n (polynomial_from w)) (sym n) (sym w) f)), refl)), refl)
+    let fits = subst₂ (λ n w. MonomialsFit n [] (polynomial_from w)) n w (c.monomials_fit.ensures.0 c.if-not-monomials_fit.false) in
+    (inr (fits, inl ((λ f. no_of _ _ c.if-not-has_arguments.true c.has_arguments.ensures (subst₂ (λ n w. HasArguments n (polynomial_from w)) (sym n) (sym w) f)), refl)), refl)
 
 pub returns : goal.returns
 returns c =
-    let n = c.unwrap-or-arity.ensures ∙ ap (λ o. unwrap_or o 0) c.arity.ensures in
+    let n = c.unwrap_or-arity.ensures ∙ ap (λ o. unwrap_or o 0) c.arity.ensures in
     let w = take_rest c.args.field.now.value.now 1 in (
-      subst₂ (λ n w. MonomialsFit n [] (polynomial_from w)) n w (c.monomials-fit.ensures.0 c.if-not-monomials-fit.false),
-      (subst₂ (λ n w. HasArguments n (polynomial_from w)) n w (c.has-arguments.ensures.0 c.if-not-has-arguments.false), tt),
+      subst₂ (λ n w. MonomialsFit n [] (polynomial_from w)) n w (c.monomials_fit.ensures.0 c.if-not-monomials_fit.false),
+      (subst₂ (λ n w. HasArguments n (polynomial_from w)) n w (c.has_arguments.ensures.0 c.if-not-has_arguments.false), tt),
     )

@@ -15,8 +15,8 @@ loop-field-init c = (
   record { before = []; split = from_the_start c.args.book.now.tables.bytes.now 3 c.fields-fields.result.reader.at c.fields-fields.ensures.2; passed = tt; placed = λ k h. get_or-replicate 128 k 0 0 h },
 )
 
-pub enter-figures-requires : goal.enter-figures-requires
-enter-figures-requires c =
+pub enter_figures-requires : goal.enter_figures-requires
+enter_figures-requires c =
     let b = c.args.book.now in
     let t = b.tables in
     let i = c.loop-field.invariant in
@@ -26,8 +26,8 @@ enter-figures-requires c =
     let there = held_value t.bytes.now t.arities t.symbols t.rules t.count 3 i.2.before (fields_from c.next.new.self.reader.at t.bytes.now 3) l split b.holds in
     record { some = omega (arith, (there.fits _ refl).0); inside = omega (arith, there.inside, held_short t.bytes.now t.arities t.symbols t.rules t.count b.holds) }
 
-pub check-monomials-requires : goal.check-monomials-requires
-check-monomials-requires c =
+pub check_monomials-requires : goal.check_monomials-requires
+check_monomials-requires c =
     let b = c.args.book.now in
     let t = b.tables in
     let i = c.loop-field.invariant in
@@ -37,22 +37,22 @@ check-monomials-requires c =
     let there = held_value t.bytes.now t.arities t.symbols t.rules t.count 3 i.2.before (fields_from c.next.new.self.reader.at t.bytes.now 3) l split b.holds in
     omega (arith, (there.fits _ refl).0)
 
-pub returns-then-not-enter-figures : goal.returns-then-not-enter-figures
-returns-then-not-enter-figures c =
+pub returns-then-not-enter_figures : goal.returns-then-not-enter_figures
+returns-then-not-enter_figures c =
     let bs = c.args.book.now.tables.bytes.now in
     let i = c.loop-field.invariant in
     let r = c.loop-field.fields.reader in
-    let no = (c.enter-figures.ensures i.2.before i.2.placed).1 c.if-not-enter-figures.true in
+    let no = (c.enter_figures.ensures i.2.before i.2.placed).1 c.if-not-enter_figures.true in
     next_refused bs r.bytes.now i.0 c.loop-field.fields.tag 3 i.1 r.at c.next.new.self.reader.at c.in-Some.field c.in-Some.ensures.answer polynomial_questions i.2.before i.2.split i.2.passed 8 (inl (no, refl)) c.in-Some.field.offset refl
 
-pub returns-in-err-check-monomials : goal.returns-in-err-check-monomials
-returns-in-err-check-monomials c =
+pub returns-in_err-check_monomials : goal.returns-in_err-check_monomials
+returns-in_err-check_monomials c =
     let bs = c.args.book.now.tables.bytes.now in
     let i = c.loop-field.invariant in
     let r = c.loop-field.fields.reader in
-    let yes = (c.enter-figures.ensures i.2.before i.2.placed).0 c.if-not-enter-figures.false in
-    let no = c.in-err-check-monomials.ensures in
-    let p = err_from_is_err_and c.from-residual.result c.from-residual.ensures.1 in
+    let yes = (c.enter_figures.ensures i.2.before i.2.placed).0 c.if-not-enter_figures.false in
+    let no = c.in_err-check_monomials.ensures in
+    let p = err_from_is_err_and c.from_residual.result c.from_residual.ensures.1 in
     rw (p.1, p.2)
     (next_refused bs r.bytes.now i.0 c.loop-field.fields.tag 3 i.1 r.at c.next.new.self.reader.at c.in-Some.field c.in-Some.ensures.answer polynomial_questions i.2.before i.2.split i.2.passed _ (inr (yes.0, no.0)) _ no.1)
 
@@ -62,13 +62,13 @@ loop-field-preserved c =
     let i = c.loop-field.invariant in
     let r = c.loop-field.fields.reader in
     let l = located_as c.in-Some.field in
-    let yes = (c.enter-figures.ensures i.2.before i.2.placed).0 c.if-not-enter-figures.false in (
+    let yes = (c.enter_figures.ensures i.2.before i.2.placed).0 c.if-not-enter_figures.false in (
       c.next.ensures.bytes ∙ i.0,
       c.next.ensures.tag ∙ i.1,
       record {
         before = i.2.before ++ l ∷ [];
         split = next_passed bs r.bytes.now i.0 c.loop-field.fields.tag 3 i.1 r.at c.next.new.self.reader.at c.in-Some.field c.in-Some.ensures.answer i.2.before i.2.split;
-        passed = all_pass_push polynomial_questions (signature_of bs) [] i.2.before l i.2.passed (yes.0, c.in-ok-check-monomials.ensures);
+        passed = all_pass_push polynomial_questions (signature_of bs) [] i.2.before l i.2.passed (yes.0, c.in_ok-check_monomials.ensures);
         placed = yes.1;
       },
     )

@@ -29,7 +29,7 @@ returns c = λ before p.
     let small : code < 128 = omega (arith, c.if-code-ge-VARIABLE.false) in
     let new = no_field before code (sym (p code small) ∙ c.if-places-code-ne0.false) in (
       (λ e. (
-        record { declared = λ n. never (sym (ap is_some (c.arity.ensures ∙ n)) ∙ c.if-is-none.ensures); first = new },
+        record { declared = λ n. never (sym (ap is_some (c.arity.ensures ∙ n)) ∙ c.if-is_none.ensures); first = new },
         places_push c.args.places.now before (located_as c.args.field.now) c.told-places small new p,
       )),
       (λ e f. absurd (never (sym e))),

@@ -13,8 +13,8 @@ loop-field-init c = (
   record { before = []; split = from_the_start c.args.book.now.tables.bytes.now 4 c.fields-fields.result.reader.at c.fields-fields.ensures.2; firsts = tt; placed = λ k h. get_or-replicate 128 k 0 0 h },
 )
 
-pub enter-rank-requires : goal.enter-rank-requires
-enter-rank-requires c =
+pub enter_rank-requires : goal.enter_rank-requires
+enter_rank-requires c =
     let b = c.args.book.now in
     let t = b.tables in
     let i = c.loop-field.invariant in
@@ -30,7 +30,7 @@ loop-field-preserved c =
     let i = c.loop-field.invariant in
     let r = c.loop-field.fields.reader in
     let l = located_as c.in-Some.field in
-    let yes = (c.enter-rank.ensures i.2.before i.2.placed).0 c.if-not-enter-rank.false in (
+    let yes = (c.enter_rank.ensures i.2.before i.2.placed).0 c.if-not-enter_rank.false in (
       c.next.ensures.bytes ∙ i.0,
       c.next.ensures.tag ∙ i.1,
       record {

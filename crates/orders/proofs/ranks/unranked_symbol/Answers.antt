@@ -18,8 +18,8 @@ loop-symbol-init c = (
   record { before = []; split = from_the_start c.args.book.now.tables.bytes.now 1 c.fields-symbols.result.reader.at c.fields-symbols.ensures.2; have = λ p. tt },
 )
 
-pub is-ranked-requires : goal.is-ranked-requires
-is-ranked-requires c =
+pub is_ranked-requires : goal.is_ranked-requires
+is_ranked-requires c =
     let b = c.args.book.now in
     let t = b.tables in
     let i = c.loop-symbol.invariant in
@@ -28,8 +28,8 @@ is-ranked-requires c =
     let split = next_split t.bytes.now r.bytes.now i.0 c.loop-symbol.symbols.tag 1 i.1 r.at c.next.new.self.reader.at c.in-Some.symbol c.in-Some.ensures.answer i.2.before i.2.split in
     record { two = (held_pair t.bytes.now t.arities t.symbols t.rules t.count 1 refl i.2.before (fields_from c.next.new.self.reader.at t.bytes.now 1) l split b.holds).two }
 
-pub returns-then-not-is-ranked : goal.returns-then-not-is-ranked
-returns-then-not-is-ranked c = λ firsts placed.
+pub returns-then-not-is_ranked : goal.returns-then-not-is_ranked
+returns-then-not-is_ranked c = λ firsts placed.
     let b = c.args.book.now in
     let t = b.tables in
     let bs = t.bytes.now in
@@ -45,7 +45,7 @@ returns-then-not-is-ranked c = λ firsts placed.
       good = i.2.have placed;
       no = λ h. by code c.args.places.now (fields_of bs 4) placed h
           (λ v. declared_of (signature_of bs) [] (fields_of bs 4) code firsts h (held_codes bs t.arities t.symbols t.rules t.count b.holds code v))
-          (λ q. never (sym c.if-not-is-ranked.true ∙ c.is-ranked.ensures.1 q))
+          (λ q. never (sym c.if-not-is_ranked.true ∙ c.is_ranked.ensures.1 q))
           (cases_Bool (ltb code 128));
       offset = refl;
     }
@@ -61,7 +61,7 @@ loop-symbol-preserved c =
     let r = c.loop-symbol.symbols.reader in
     let code = get_or c.in-Some.symbol.value.now 0 0 in
     let l = located_as c.in-Some.symbol in
-    let yes = c.is-ranked.ensures.0 c.if-not-is-ranked.false in (
+    let yes = c.is_ranked.ensures.0 c.if-not-is_ranked.false in (
       c.next.ensures.bytes ∙ i.0,
       c.next.ensures.tag ∙ i.1,
       record {

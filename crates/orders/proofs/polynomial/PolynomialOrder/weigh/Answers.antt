@@ -12,29 +12,29 @@ use Rattle.orders.specs.Polynomials.{interpretation_of}
 use Rattle.orders.proofs.PathBytes.{no_of}
 use Rattle.orders.proofs.polynomial.PolynomialOrder.weigh.Goals as goal
 
-pub returns-then-not-is-side : goal.returns-then-not-is-side
-returns-then-not-is-side c =
+pub returns-then-not-is_side : goal.returns-then-not-is_side
+returns-then-not-is_side c =
     let p = c.args.self.now in
     let bytes = p.book.tables.bytes.now in
     let l = c.args.left.now in
     let r = c.args.right.now in
-    sym ((polynomial_order_keeps_the_laws (signature_of bytes) (interpretation_of bytes) (proper_held (signature_of bytes) (interpretation_of bytes) p.proper)).malformed l r (λ q. no_of c.is-side.result (IsSide (signature_of bytes) l) c.if-not-is-side.true c.is-side.ensures q.0))
+    sym ((polynomial_order_keeps_the_laws (signature_of bytes) (interpretation_of bytes) (proper_held (signature_of bytes) (interpretation_of bytes) p.proper)).malformed l r (λ q. no_of c.is_side.result (IsSide (signature_of bytes) l) c.if-not-is_side.true c.is_side.ensures q.0))
 
-pub returns-then-not-is-side-2 : goal.returns-then-not-is-side-2
-returns-then-not-is-side-2 c =
+pub returns-then-not-is_side-2 : goal.returns-then-not-is_side-2
+returns-then-not-is_side-2 c =
     let p = c.args.self.now in
     let bytes = p.book.tables.bytes.now in
     let l = c.args.left.now in
     let r = c.args.right.now in
-    sym ((polynomial_order_keeps_the_laws (signature_of bytes) (interpretation_of bytes) (proper_held (signature_of bytes) (interpretation_of bytes) p.proper)).malformed l r (λ q. no_of c.is-side-2.result (IsSide (signature_of bytes) r) c.if-not-is-side-2.true c.is-side-2.ensures q.1))
+    sym ((polynomial_order_keeps_the_laws (signature_of bytes) (interpretation_of bytes) (proper_held (signature_of bytes) (interpretation_of bytes) p.proper)).malformed l r (λ q. no_of c.is_side-2.result (IsSide (signature_of bytes) r) c.if-not-is_side-2.true c.is_side-2.ensures q.1))
 
 pub returns : goal.returns
 returns c =
     let p = c.args.self.now in
     let bytes = p.book.tables.bytes.now in
-    let a = c.is-side.ensures.0 c.if-not-is-side.false in
-    let b = c.is-side-2.ensures.0 c.if-not-is-side-2.false in
-    c.unwrap-or.ensures ∙ graded (signature_of bytes) (interpretation_of bytes) c.args.left.now c.args.right.now c.grade.result a b c.grade.ensures
+    let a = c.is_side.ensures.0 c.if-not-is_side.false in
+    let b = c.is_side-2.ensures.0 c.if-not-is_side-2.false in
+    c.unwrap_or.ensures ∙ graded (signature_of bytes) (interpretation_of bytes) c.args.left.now c.args.right.now c.grade.result a b c.grade.ensures
   where
     graded : (sig : Arities) (interpretation : Interpretation) (bs cs : List ℕ) (r : Option ℕ) → IsSide sig bs → IsSide sig cs → Graded sig interpretation bs cs r → unwrap_or r 8 ≡ polynomial_grade sig interpretation bs cs
     graded sig interpretation bs cs (Some n) a b g = g.4 ∙ sym (grade_of_terms sig (grade interpretation) bs cs g.0 g.1 a b g.2 g.3)

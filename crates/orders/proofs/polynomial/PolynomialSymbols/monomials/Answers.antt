@@ -7,15 +7,15 @@ use Rattle.orders.proofs.polynomial.PolynomialSymbols.monomials.Goals as goal
 read_length : (bs read : List ℕ) → read ≡ bs → (p : ℕ) → Whole bs p → 256 * get_or read (p - 3) 0 + get_or read (p - 2) 0 ≡ length_before bs p
 read_length bs read e p w = ap (λ bs. 256 * get_or bs (p - 3) 0 + get_or bs (p - 2) 0) e ∙ length_read bs p w.0
 
-pub overflow-sub-result : goal.overflow-sub-result
-overflow-sub-result c =
+pub overflow_sub-result : goal.overflow_sub-result
+overflow_sub-result c =
     let p = c.args.self.now in
     let place = get_or p.places c.args.code 0 in
     let w = p.whole c.args.code c.if-code-ge-VARIABLE.false c.if-place-eq0.false in
     omega (arith, read_length p.book.tables.bytes.now c.bytes-bytes.result.now c.bytes-bytes.ensures place w, w.1)
 
-pub slice-bounds-result-end-2 : goal.slice-bounds-result-end-2
-slice-bounds-result-end-2 c =
+pub slice_bounds-result-end-2 : goal.slice_bounds-result-end-2
+slice_bounds-result-end-2 c =
     let p = c.args.self.now in
     let place = get_or p.places c.args.code 0 in
     let w = p.whole c.args.code c.if-code-ge-VARIABLE.false c.if-place-eq0.false in
