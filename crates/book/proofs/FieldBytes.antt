@@ -1,10 +1,9 @@
 -- Fields and their bytes: what a reader finds, and that fields are read back from their bytes.
-use Rattle.std.proofs.Common.{◌≡◌, ℕ, zero, suc, ◌+◌, ◌-◌, ◌*◌, ◌/◌, ◌%◌, ◌<◌, ◌≤◌, List, [], ◌∷◌, ◌++◌, length, get_or, take, drop, sym, refl, ap, ◌∙◌, subst, ap₂, append_assoc, append-nil, mod-lt, arith, length-append, length-drop}
+use Rattle.std.proofs.Common.{◌≡◌, ℕ, zero, suc, ◌+◌, ◌-◌, ◌*◌, ◌/◌, ◌%◌, ◌<◌, ◌≤◌, List, [], ◌∷◌, ◌++◌, length, get_or, take, drop, sym, refl, ap, ◌∙◌, ap₂, mod-lt, arith, length-append, length-drop}
 use native.Mathlib.Nat.{div-add-mod}
-use Rattle.std.proofs.lemmas.List.{take_at, drop_at, drop-drop, take_rest, drop_all, get_or-drop, length-take-le, take-append-drop}
-use Rattle.book.specs.Format.{BookField, book_field, field_bytes, book_bytes, value_length, field_at, first_fields, fields, Row}
-use Rattle.book.specs.Faults.{number_of, offset_of}
-use Rattle.book.specs.Questions.{Whole, FieldRead, AtEnd, NotRead}
+use Rattle.std.proofs.lemmas.List.{take_at, drop_at, drop-drop, get_or-drop, length-take-le, take-append-drop}
+use Rattle.book.specs.Format.{BookField, book_field, field_bytes, book_bytes, value_length, field_at, first_fields, fields}
+use Rattle.book.specs.Questions.{Whole}
 
 -- a header in the middle of the bytes
 pub length_there : (bs : List ℕ) (at n : ℕ) → n ≡ 256 * get_or bs (at + 1) 0 + get_or bs (at + 2) 0 → value_length (drop at bs) ≡ n

@@ -1,22 +1,16 @@
 -- What the tables of a read book answer is what its bytes mean.
-use Rattle.std.proofs.Common.{◌≡◌, ℕ, zero, suc, ◌+◌, ◌<◌, ◌≤◌, Bool, true, false, cond, eqb, List, [], ◌∷◌, ◌++◌, map, length, get_or, take, drop, Some, None, Option, sym, refl, ap, ◌∙◌, subst, ap₂, append_assoc, append-nil, arith, length-append}
+use Rattle.std.proofs.Common.{◌≡◌, ℕ, zero, suc, ◌+◌, ◌<◌, ◌≤◌, Bool, true, false, cond, eqb, List, [], ◌∷◌, ◌++◌, length, get_or, sym, refl, ap, ◌∙◌, subst, append_assoc, append-nil, arith, length-append}
 use mathlib.Core.Logic.{∥∥₁_elim}
 use native.Mathlib.Bridge.{le_prop}
 use native.Mathlib.Decide.{ℕ_discrete}
 use mathlib.Core.HLevel.{hedberg}
-use Rattle.std.proofs.lemmas.List.{drop_at, get_or-map, get_or-take, length-map, length-take-le}
+use Rattle.std.proofs.lemmas.List.{length-map}
 use Rattle.std.proofs.lemmas.Bool.{eqb-true}
-use Rattle.terms.specs.Term.{Term, Rule, rule_at, var}
-use Rattle.terms.specs.Prefix.{Arities, WellSorted, Reads, IsTerm, term_of}
-use Rattle.terms.specs.Question.{AllYes}
-use Rattle.terms.proofs.Reading.{bytes_read_as_their_term}
-use Rattle.terms.proofs.Sorts.{option_set, bytes_set, reads_prop, sorted_more}
-use Rattle.book.specs.Format.{BookField, book_field, field_bytes, book_bytes, value_length, field_at, fields}
-use Rattle.book.specs.Meaning.{code, arity, declares, signature, left_side, right_side, rule_of, Located, located, with_tag, signature_of, fields_of, rules_of}
-use Rattle.book.specs.Questions.{Whole, FieldRead, Good, field_questions, IsSide, rules_in}
-use Rattle.book.specs.Queries.{SidesOf}
-use Rattle.book.specs.Tables.{arity_in, Tabled, Laid, Holds}
-use Rattle.book.proofs.FieldBytes.{length_back, field_back}
+use Rattle.terms.proofs.Sorts.{option_set, bytes_set}
+use Rattle.book.specs.Format.{BookField, field_bytes, book_bytes, fields}
+use Rattle.book.specs.Meaning.{rule_of, Located, located, with_tag, signature_of, fields_of, rules_of}
+use Rattle.book.specs.Questions.{Good, rules_in}
+use Rattle.book.specs.Tables.{arity_in, Laid, Holds}
 use Rattle.book.proofs.Entering.{arity_is, rules_push_same, rules_push_other}
 
 ℕ_set : IsSet ℕ

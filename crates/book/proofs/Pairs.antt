@@ -1,5 +1,5 @@
 -- Where the values of fields stand in the bytes of a book; of a value that is a code and one byte more, that byte.
-use Rattle.std.proofs.Common.{◌≡◌, ℕ, ◌+◌, ◌-◌, ◌%◌, ◌<◌, ◌≤◌, Bool, true, false, cond, ◌&&◌, eqb, ltb, List, [], ◌∷◌, ◌++◌, length, get_or, take, drop, Some, None, Option, sym, refl, ap, ◌∙◌, subst, ap₂, arith, length-append, MatchOption}
+use Rattle.std.proofs.Common.{◌≡◌, ℕ, ◌+◌, ◌-◌, ◌%◌, ◌<◌, ◌≤◌, Bool, true, false, cond, ◌&&◌, eqb, ltb, List, [], ◌∷◌, ◌++◌, length, get_or, take, drop, Some, None, sym, refl, ap, ◌∙◌, subst, arith, length-append, MatchOption}
 use mathlib.Core.List.{List-discrete}
 use mathlib.Core.Logic.{∥∥₁_elim}
 use native.Mathlib.Bridge.{le_prop}
@@ -9,12 +9,12 @@ use Rattle.std.proofs.lemmas.List.{get_or_at, drop_at, drop-drop, take_at}
 use Rattle.std.proofs.lemmas.Bool.{eqb-true, ltb-true, le-ltb}
 use Rattle.book.specs.declared.shape.Shape.{Shape}
 use Rattle.book.specs.Format.{BookField, field_bytes, book_bytes, fields, exactly, shape_of, FitsShape, value_length}
-use Rattle.book.specs.Meaning.{code, arity, declares, signature, Located, located, with_tag, fields_of, signature_of}
+use Rattle.book.specs.Meaning.{code, arity, signature, Located, fields_of, signature_of}
 use Rattle.book.specs.Questions.{Good}
-use Rattle.book.specs.Tables.{byte_at, arity_in, Holds}
+use Rattle.book.specs.Tables.{byte_at, Holds}
 use Rattle.book.proofs.Entering.{arity_byte}
 use Rattle.book.proofs.FieldBytes.{length_back}
-use Rattle.book.proofs.Held.{Nth, nth, held_arity}
+use Rattle.book.proofs.Held.{nth, held_arity}
 use Rattle.book.proofs.RuleSides.{good_at, book_bytes_append}
 
 ℕ_set : IsSet ℕ

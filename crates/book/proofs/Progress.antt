@@ -1,15 +1,15 @@
 -- How far a book has been read: good fields behind the reader, and their tables.
-use Rattle.std.proofs.Common.{◌≡◌, ℕ, suc, ◌+◌, ◌*◌, ◌<◌, ◌≤◌, Bool, true, false, cond, eqb, ◌⊎◌, List, [], ◌∷◌, ◌++◌, length, get_or, take, drop, Some, None, Option, sym, refl, ap, ◌∙◌, subst, ap₂, inl, inr, append_assoc, append-nil, arith, length-append, length-drop, MatchOption}
-use Rattle.std.proofs.lemmas.List.{drop_at, get_or-drop, drop-drop}
+use Rattle.std.proofs.Common.{◌≡◌, ℕ, suc, ◌+◌, ◌<◌, ◌≤◌, Bool, true, false, cond, eqb, List, [], ◌∷◌, ◌++◌, length, get_or, drop, Some, None, Option, sym, refl, ap, ◌∙◌, subst, ap₂, inl, inr, append_assoc, append-nil, arith, length-append, length-drop, MatchOption}
+use Rattle.std.proofs.lemmas.List.{drop_at, get_or-drop}
 use Rattle.terms.specs.Question.{AllYes, FirstNo}
 use Rattle.std.proofs.lemmas.Option.{MatchOption-at_some, MatchOption-at_none}
 use Rattle.book.specs.declared.fault.Fault.{Fault}
 use Rattle.book.specs.declared.field.Field.{Field}
 use Rattle.book.specs.declared.tables.Tables.{Tables}
-use Rattle.book.specs.Format.{BookField, field_bytes, book_bytes, value_length, field_at, fields}
+use Rattle.book.specs.Format.{BookField, field_bytes, book_bytes, value_length, fields}
 use Rattle.book.specs.Faults.{number_of, offset_of}
 use Rattle.book.specs.Meaning.{Located, located, with_tag}
-use Rattle.book.specs.Questions.{Whole, FieldRead, AtEnd, NotRead, field_questions, questions, Good, book_limit, Accepted, RefusedAt, Refused}
+use Rattle.book.specs.Questions.{FieldRead, AtEnd, NotRead, field_questions, questions, Good, Accepted, Refused}
 use Rattle.book.specs.Tables.{Tabled, Laid, Holds}
 use Rattle.book.specs.Views.{meant}
 use Rattle.book.specs.Kept.{TablesOf}

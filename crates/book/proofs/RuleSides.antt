@@ -1,23 +1,23 @@
 -- The sides of a rule stand in the bytes where the tables say, and read as the rule's terms.
-use Rattle.std.proofs.Common.{◌≡◌, ℕ, ◌+◌, ◌<◌, ◌≤◌, Bool, true, false, cond, ◌&&◌, List, [], ◌∷◌, ◌++◌, map, length, get_or, take, drop, Some, None, Option, sym, refl, ap, ◌∙◌, subst, ap₂, append_assoc, append-nil, arith, length-append, MatchOption}
+use Rattle.std.proofs.Common.{◌≡◌, ℕ, ◌+◌, ◌<◌, ◌≤◌, Bool, true, false, cond, List, [], ◌∷◌, ◌++◌, length, get_or, drop, Some, None, Option, sym, refl, ap, ◌∙◌, subst, ap₂, append_assoc, append-nil, arith, length-append, MatchOption}
 use mathlib.Core.HLevel.{⊥_prop}
 use mathlib.Core.Logic.{∥∥₁_elim}
 use native.Mathlib.Bridge.{le_prop}
 use Rattle.std.proofs.lemmas.List.{drop_at, drop_all, get_or-map, get_or-take, length-map}
-use Rattle.terms.specs.Term.{Term, Rule, rule_at, var, size}
-use Rattle.terms.specs.Prefix.{Arities, WellSorted, Reads, IsTerm, term_of}
+use Rattle.terms.specs.Term.{rule_at, var, size}
+use Rattle.terms.specs.Prefix.{Arities, WellSorted, Reads, term_of}
 use Rattle.terms.specs.Question.{AllYes}
 use Rattle.terms.proofs.Reading.{prefix_length, bytes_read_as_their_term}
 use Rattle.terms.proofs.Sorts.{well_sorted_prop, reads_prop, sorted_more}
 use Rattle.book.specs.declared.fault.Fault.{Fault}
 use Rattle.book.specs.declared.field.Sides.{Sides}
 use Rattle.book.specs.Format.{BookField, field_bytes, book_bytes, field_at, fields}
-use Rattle.book.specs.Meaning.{arity, declares, signature, left_side, right_side, rule_of, Located, located, with_tag, signature_of, fields_of, rules_of}
+use Rattle.book.specs.Meaning.{arity, declares, signature, left_side, right_side, rule_of, Located, located, with_tag, signature_of, rules_of}
 use Rattle.book.specs.Questions.{Whole, FieldRead, AtEnd, NotRead, Good, field_questions, IsSide}
 use Rattle.book.specs.Queries.{SidesOf}
 use Rattle.book.specs.Tables.{Holds}
 use Rattle.book.proofs.FieldBytes.{length_back, field_back}
-use Rattle.book.proofs.Held.{Nth, nth, held_count}
+use Rattle.book.proofs.Held.{nth, held_count}
 
 pub book_bytes_append : (fs gs : List BookField) → book_bytes (fs ++ gs) ≡ book_bytes fs ++ book_bytes gs
 book_bytes_append [] gs = refl

@@ -1,12 +1,12 @@
 -- The small examples of books.
-use Rattle.std.proofs.Common.{◌≡◌, ℕ, ◌≤◌, ◌⊎◌, List, [], ◌∷◌, Some, None, refl, inl, inr, arith, lit<, lit≤}
+use Rattle.std.proofs.Common.{[], ◌∷◌, Some, None, refl, inl, inr, arith, lit<, lit≤}
 use Rattle.terms.specs.Term.{var, node, nil, cons}
 use Rattle.terms.specs.Prefix.{IsTerm}
 use Rattle.terms.proofs.Scans.{first_is}
 use Rattle.terms.proofs.Parts.{no_term_from_first}
-use Rattle.book.specs.Format.{BookField, book_bytes}
+use Rattle.book.specs.Format.{book_bytes}
 use Rattle.book.specs.Meaning.{signature}
-use Rattle.book.specs.Questions.{Accepted, Refused, SidesFit, IsSide}
+use Rattle.book.specs.Questions.{Accepted, Refused, IsSide}
 use Rattle.book.specs.Theorems.{DefinitionsHoldAndFail, sample_book, early_rule}
 use Rattle.book.proofs.Verdicts.{one_verdict}
 

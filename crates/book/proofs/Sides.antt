@@ -1,7 +1,6 @@
 -- When bytes are a side of a rule.
-use Rattle.std.proofs.Common.{◌≡◌, ℕ, ◌+◌, ◌<◌, ◌≤◌, Bool, true, false, List, [], length, get_or, drop, Decides, sym, refl, ap, ◌∙◌, subst, arith}
+use Rattle.std.proofs.Common.{◌≡◌, ℕ, ◌+◌, ◌<◌, ◌≤◌, Bool, List, [], length, get_or, Decides, sym, ap, subst, arith}
 use Rattle.std.proofs.lemmas.List.{drop_all}
-use Rattle.terms.specs.Term.{Term, size}
 use Rattle.terms.specs.Prefix.{Arities, IsTerm}
 use Rattle.terms.proofs.Reading.{prefix_length, size_pos}
 use Rattle.book.specs.Format.{BookField}

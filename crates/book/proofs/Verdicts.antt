@@ -1,9 +1,9 @@
 -- Each byte string has one verdict at most.
-use Rattle.std.proofs.Common.{◌≡◌, ℕ, ◌+◌, ◌<◌, ◌≤◌, ◌⊎◌, List, [], ◌∷◌, ◌++◌, length, drop, Some, None, Option, sym, refl, ap, ◌∙◌, subst, ap₂, inl, inr, append_assoc, append-nil, arith, length-append}
+use Rattle.std.proofs.Common.{◌≡◌, ℕ, ◌+◌, ◌<◌, List, [], ◌∷◌, ◌++◌, length, drop, Some, None, Option, sym, refl, ap, ◌∙◌, subst, ap₂, inl, inr, append_assoc, append-nil, arith, length-append}
 use Rattle.terms.specs.Question.{AllYes, FirstNo}
 use Rattle.terms.proofs.Answers.{yes_or_no, one_number}
 use Rattle.book.specs.Format.{BookField, field_bytes, book_bytes, value_length, field_at}
-use Rattle.book.specs.Questions.{Whole, field_questions, questions, Good, Accepted, RefusedAt, Refused}
+use Rattle.book.specs.Questions.{Whole, field_questions, questions, Good, Accepted, Refused}
 use Rattle.book.specs.Theorems.{OneVerdict}
 use Rattle.book.proofs.FieldBytes.{length_back, field_back, rest_back}
 

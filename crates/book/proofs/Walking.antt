@@ -8,7 +8,7 @@ use Rattle.book.specs.declared.fault.Fault.{Fault}
 use Rattle.book.specs.declared.field.Field.{Field}
 use Rattle.book.specs.Views.{meant}
 use Rattle.book.specs.Format.{BookField, field_bytes, book_bytes, value_length, field_at, fields, Row}
-use Rattle.book.specs.Meaning.{Located, located, with_tag, fields_from}
+use Rattle.book.specs.Meaning.{located, with_tag, fields_from}
 use Rattle.book.specs.Questions.{Whole, FieldRead, AtEnd, NotRead}
 use Rattle.book.proofs.FieldBytes.{length_back, field_back, rest_back, fields_back}
 

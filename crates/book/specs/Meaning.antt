@@ -1,5 +1,5 @@
 -- What the fields of a book mean: its signature, its rules, and the fields of each tag with their offsets.
-use Rattle.std.specs.Prelude.{ℕ, ◌+◌, Bool, cond, ◌&&◌, List, [], ◌∷◌, ◌++◌, map, length, take, drop, Some, None, Option, ◌==◌, slice_index}
+use Rattle.std.specs.Prelude.{ℕ, ◌+◌, Bool, cond, ◌&&◌, List, [], ◌∷◌, map, length, take, drop, Some, None, ◌==◌, slice_index}
 use Rattle.terms.specs.Term.{Rule}
 use Rattle.terms.specs.Prefix.{Arities, term_of}
 use Rattle.book.specs.Format.{BookField, field_bytes, fields}

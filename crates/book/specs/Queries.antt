@@ -3,7 +3,6 @@ use Rattle.std.specs.Prelude.{◌≡◌, ℕ, ◌<◌, ◌≤◌, List, [], ◌�
 use Rattle.terms.specs.Term.{rule_at}
 use Rattle.terms.specs.Prefix.{Reads}
 use Rattle.book.specs.declared.field.Field.{Field}
-use Rattle.book.specs.Format.{BookField}
 use Rattle.book.specs.Meaning.{Located, signature_of, rules_of, fields_from}
 use Rattle.book.specs.Views.{meant}
 

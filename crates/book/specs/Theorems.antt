@@ -1,6 +1,6 @@
 -- What is proved of books beside the calls' own contracts; each statement stands on the contract of a function of src/theorems.rt.
-use Rattle.std.specs.Prelude.{◌≡◌, ℕ, List, [], ◌∷◌, ◌++◌, Some, None, Option}
-use Rattle.terms.specs.Term.{Rule, var, node, nil, cons}
+use Rattle.std.specs.Prelude.{◌≡◌, ℕ, List, [], ◌∷◌, Some, None, Option}
+use Rattle.terms.specs.Term.{var, node, nil, cons}
 use Rattle.book.specs.Format.{BookField, book_field, book_bytes, fields}
 use Rattle.book.specs.Meaning.{signature_of, rules_of, fields_of}
 use Rattle.book.specs.Questions.{Accepted, Refused}

@@ -1,10 +1,10 @@
 -- The fence in words, and that it keeps the laws that the order beneath keeps.
-use Rattle.std.proofs.Common.{◌≡◌, ℕ, ◌<◌, ◌≤◌, Bool, true, false, cond, ◌&&◌, ◌||◌, eqb, ltb, leb, ◌⊎◌, List, [], ◌∷◌, ◌++◌, length, get_or, sym, refl, ap, ◌∙◌, subst, ap₂, inl, inr, arith}
+use Rattle.std.proofs.Common.{◌≡◌, ℕ, ◌<◌, ◌≤◌, true, false, cond, eqb, ltb, leb, ◌⊎◌, List, [], ◌∷◌, ◌++◌, length, sym, refl, ap, ◌∙◌, subst, ap₂, inl, inr, arith}
 use Rattle.std.proofs.lemmas.Bool.{or_cases, or_left, or_right, and_from, and_parts, eqb-true, eqb-false, eq-eqb, ne_eqb, ltb-true, ltb-false, cases_Bool, le-leb, lt-leb}
-use Rattle.terms.specs.Term.{Kind, Tree, var, node, nil, cons, Term, Terms, Occurs, IsNode}
+use Rattle.terms.specs.Term.{Kind, Tree, var, node, nil, cons, Term, Terms, Occurs}
 use Rattle.terms.specs.Prefix.{Arities, prefix, WellSorted, Reads}
 use Rattle.order_theory.specs.Laws.{OrderLaws}
-use Rattle.order_theory.specs.Fence.{ProperPair, has, is_known, keeps_variables, is_proper, fence_grade, FenceOf, FenceInWords}
+use Rattle.order_theory.specs.Fence.{ProperPair, has, is_known, keeps_variables, is_proper, fence_grade, FenceInWords}
 
 never : false ≡ true → ⊥
 never e = let z : ◌≡◌ {A = ℕ} 0 1 = cc in omega arith

@@ -1,8 +1,8 @@
 -- The lexicographic path order is well-founded, and closed under substitutions and contexts.
-use Rattle.std.proofs.Common.{◌≡◌, ℕ, zero, suc, ◌+◌, ◌<◌, ◌≤◌, sym, refl, ap, ◌∙◌, subst, ap₂, subst₂, arith}
+use Rattle.std.proofs.Common.{◌≡◌, ℕ, zero, suc, ◌+◌, ◌<◌, sym, refl, ap, ◌∙◌, subst, arith}
 use mathlib.Core.WellFounded.Acc
 use mathlib.Core.WellFounded.{Acc}
-use Rattle.terms.specs.Term.{Kind, one, many, Tree, var, node, nil, cons, Term, Terms, Subst, sub, Occurs, IsNode, how_many}
+use Rattle.terms.specs.Term.{Kind, one, many, Tree, var, node, nil, cons, Term, Terms, Subst, sub, IsNode, how_many}
 use Rattle.terms.specs.Place.{Context, hole, under, head, tail, plug}
 use Rattle.order_theory.specs.Path.{Greater, by_argument, by_rank, by_arguments, SomeAtLeast, is_first, in_first, in_rest, GreaterThanAll, than_none, than_next, FirstGreater, at_first, at_rest}
 

@@ -1,17 +1,14 @@
 -- The path order keeps the laws of an order.
-use Rattle.std.proofs.Common.{◌≡◌, ℕ, ◌<◌, Bool, true, false, cond, ◌&&◌, T, ◌⊎◌, ◌↔◌, List, sym, refl, ap, ◌∙◌, subst, ap₂, subst₂, inl, inr, arith}
+use Rattle.std.proofs.Common.{◌≡◌, ℕ, Bool, true, false, cond, List, sym, refl, ap, ◌∙◌, subst, subst₂, inl, inr, arith}
 use mathlib.Core.WellFounded.{Acc}
-use Rattle.terms.specs.Term.{Kind, one, many, Tree, var, node, nil, cons, Term, Terms, Subst, sub, Occurs, IsNode}
-use Rattle.terms.specs.Prefix.{Arities, Reads, term_of}
-use Rattle.terms.specs.Place.{Context, plug}
-use Rattle.terms.proofs.Reading.{bytes_read_as_their_term}
-use Rattle.rewriting.specs.Order.{OverOf, ReductionOrder}
+use Rattle.terms.specs.Term.{var, node, nil, cons, Term, Terms, Occurs}
+use Rattle.terms.specs.Prefix.{Arities, Reads}
+use Rattle.rewriting.specs.Order.{ReductionOrder}
 use Rattle.book.specs.Questions.{IsSide}
-use Rattle.order_theory.specs.Path.{Greater, by_argument, by_rank, by_arguments, SomeAtLeast, is_first, in_first, in_rest, GreaterThanAll, FirstGreater}
-use Rattle.order_theory.specs.Grade.{is_side, greater, path_grade}
-use Rattle.order_theory.specs.Laws.{OrderLaws}
+use Rattle.order_theory.specs.Path.{Greater, by_argument, by_rank, by_arguments, SomeAtLeast, is_first, in_first, in_rest, GreaterThanAll}
+use Rattle.order_theory.specs.Grade.{greater, path_grade}
 use Rattle.order_theory.specs.Theorems.{InWords, variable, argument, higher_head, same_head, PathOrderInWords, PathOrderIsStrict, PathOrderKeepsTheLaws}
-use Rattle.order_theory.proofs.PathEnds.{Below, well_founded, greater_sub, larger_plug}
+use Rattle.order_theory.proofs.PathEnds.{well_founded, greater_sub, larger_plug}
 use Rattle.order_theory.proofs.PathStrict.{greater_trans, irreflexive}
 use Rattle.order_theory.proofs.Testing.{greater_sound, greater_complete}
 use Rattle.order_theory.proofs.BytesLaws.{never, to_true, from_true, grade_of_terms, bytes_keep_the_laws}

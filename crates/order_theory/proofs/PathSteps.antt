@@ -1,6 +1,6 @@
 -- How the path order is decided without trying everything: which argument decides, by the heads and the first difference.
-use Rattle.std.proofs.Common.{◌≡◌, ℕ, ◌+◌, ◌<◌, ◌≤◌, ◌⊎◌, sym, refl, ap, ◌∙◌, subst, ap₂, subst₂, inl, inr, arith}
-use Rattle.terms.specs.Term.{Kind, one, many, Tree, var, node, nil, cons, Term, Terms, how_many}
+use Rattle.std.proofs.Common.{◌≡◌, ℕ, ◌<◌, sym, refl, ap, ◌∙◌, subst, subst₂, arith}
+use Rattle.terms.specs.Term.{var, node, nil, cons, Term, Terms, how_many}
 use Rattle.order_theory.specs.Path.{Greater, by_argument, by_rank, by_arguments, SomeAtLeast, is_first, in_first, in_rest, GreaterThanAll, than_none, than_next, FirstGreater, at_first, at_rest, Common, from_the_start, one_more}
 use Rattle.order_theory.proofs.PathStrict.{greater_trans, irreflexive}
 

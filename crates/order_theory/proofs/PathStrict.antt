@@ -2,7 +2,7 @@
 -- For s > t > u the induction is on s, then for one s on t, and for one s and t on u: each is by structure, one inside the other.
 use Rattle.std.proofs.Common.{◌≡◌, ℕ, ◌+◌, ◌<◌, ◌⊎◌, refl, ap, ◌∙◌, subst, inl, inr, arith}
 use mathlib.Core.WellFounded.{Acc}
-use Rattle.terms.specs.Term.{one, many, Tree, var, node, nil, cons, Term, Terms, how_many}
+use Rattle.terms.specs.Term.{var, node, nil, cons, Term, Terms, how_many}
 use Rattle.order_theory.specs.Path.{Greater, by_argument, by_rank, by_arguments, SomeAtLeast, is_first, in_first, in_rest, GreaterThanAll, than_none, than_next, FirstGreater, at_first, at_rest}
 use Rattle.order_theory.proofs.PathEnds.{Below, well_founded}
 

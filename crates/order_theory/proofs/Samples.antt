@@ -1,12 +1,8 @@
 -- The small examples of orders.
-use Rattle.std.proofs.Common.{◌≡◌, ℕ, ◌<◌, ◌≤◌, T, ◌⊎◌, List, [], ◌∷◌, sym, refl, ◌∙◌, inl, inr, arith, lit<, lit≤}
-use Rattle.terms.specs.Term.{var, node, nil, cons, Term}
+use Rattle.std.proofs.Common.{[], ◌∷◌, refl, inl, inr, arith, lit<, lit≤}
 use Rattle.terms.specs.Prefix.{Reads}
 use Rattle.book.specs.Questions.{IsSide}
-use Rattle.polynomials.specs.Examples.{f, g, x, doubled_arities, doubling}
-use Rattle.order_theory.specs.Path.{Greater}
-use Rattle.order_theory.specs.Laws.{OrderLaws}
-use Rattle.order_theory.specs.Grade.{greater, grade_of_bytes}
+use Rattle.polynomials.specs.Examples.{f, g, x, doubled_arities}
 use Rattle.order_theory.specs.Examples.{ranks, OrdersHoldAndFail}
 use Rattle.order_theory.proofs.Testing.{greater_sound, greater_complete}
 use Rattle.order_theory.proofs.PathStrict.{irreflexive}

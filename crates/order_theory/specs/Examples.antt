@@ -1,9 +1,9 @@
 -- Small examples: each definition of orders holds of something and fails of something. The symbols are f and g with the codes 2 and 3, and one argument.
-use Rattle.std.specs.Prelude.{◌≡◌, ℕ, cond, ◌&&◌, List, [], ◌∷◌, ◌==◌}
+use Rattle.std.specs.Prelude.{◌≡◌, ℕ, cond, List, [], ◌∷◌, ◌==◌}
 use Rattle.terms.specs.Term.{var}
 use Rattle.polynomials.specs.Examples.{f, g, x, doubled_arities, doubling}
 use Rattle.order_theory.specs.Path.{Greater}
-use Rattle.order_theory.specs.Grade.{is_side, grade_of_bytes, path_grade, polynomial_grade}
+use Rattle.order_theory.specs.Grade.{grade_of_bytes, path_grade, polynomial_grade}
 use Rattle.order_theory.specs.Laws.{OrderLaws}
 use Rattle.order_theory.specs.Fence.{ProperPair, fence_grade}
 

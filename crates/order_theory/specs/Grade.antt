@@ -1,6 +1,6 @@
 -- Tests that compute: whether bytes are a side of a rule, and whether a term is greater by the path order; and the grades of two byte strings.
 use Rattle.std.specs.Prelude.{ℕ, ◌+◌, Bool, true, false, cond, ◌&&◌, ◌||◌, List, [], ◌∷◌, length, Some, None, Option, ◌==◌, nat_le, nat_lt}
-use Rattle.terms.specs.Term.{Kind, one, many, Tree, var, node, nil, cons, Term, how_many}
+use Rattle.terms.specs.Term.{Kind, Tree, var, node, nil, cons, Term, how_many}
 use Rattle.terms.specs.Prefix.{Arities, prefix, term_of}
 use Rattle.polynomials.specs.Interpretation.{Interpretation}
 use Rattle.polynomials.specs.Grade.{grade}

@@ -1,6 +1,6 @@
 -- The lexicographic path order, over a rank for each symbol.
 use Rattle.std.specs.Prelude.{◌≡◌, ℕ, ◌<◌}
-use Rattle.terms.specs.Term.{Tree, one, node, nil, cons, Term, Terms, how_many}
+use Rattle.terms.specs.Term.{node, nil, cons, Term, Terms, how_many}
 
 mutual
   -- s is greater than t

@@ -1,5 +1,5 @@
 -- What is proved of the orders; each statement stands on the contract of a function of src/theorems.rt.
-use Rattle.std.specs.Prelude.{◌≡◌, ℕ, ◌<◌, ◌⊎◌, ◌↔◌, List, ◌≢◌}
+use Rattle.std.specs.Prelude.{◌≡◌, ℕ, ◌<◌, ◌↔◌, List, ◌≢◌}
 use Rattle.terms.specs.Term.{node, var, Term, Terms, Occurs}
 use Rattle.terms.specs.Prefix.{Arities}
 use Rattle.polynomials.specs.Interpretation.{Interpretation, Proper, Over}

@@ -1,15 +1,15 @@
 -- What a table of the places of polynomials tells, and that the polynomials of a book are a proper interpretation of its symbols.
-use Rattle.std.proofs.Common.{◌≡◌, ℕ, zero, suc, ◌+◌, ◌-◌, ◌*◌, ◌/◌, ◌<◌, ◌≤◌, Bool, true, false, cond, ◌&&◌, eqb, ltb, ◌⊎◌, List, [], ◌∷◌, ◌++◌, length, get_or, take, drop, Some, None, Option, unwrap_or, sym, refl, ap, ◌∙◌, subst, ap₂, inl, inr, append_assoc, mod-lt, arith, length-append, length-drop}
+use Rattle.std.proofs.Common.{◌≡◌, ℕ, zero, suc, ◌+◌, ◌-◌, ◌*◌, ◌/◌, ◌<◌, ◌≤◌, Bool, true, false, cond, ◌&&◌, eqb, ltb, ◌⊎◌, List, [], ◌∷◌, ◌++◌, length, get_or, take, drop, Some, None, unwrap_or, sym, refl, ap, ◌∙◌, subst, ap₂, inl, inr, append_assoc, mod-lt, arith, length-append, length-drop}
 use native.Mathlib.Nat.{div-add-mod}
 use Rattle.std.proofs.lemmas.List.{drop-drop, drop-take}
 use Rattle.std.proofs.lemmas.Bool.{eqb-true, eq-eqb, ne_eqb, ltb-true, ltb-false, cases_Bool}
 use Rattle.terms.specs.Prefix.{Arities}
 use Rattle.terms.specs.Question.{AllYes}
 use Rattle.book.specs.Format.{BookField, field_bytes, fields, value_length}
-use Rattle.book.specs.Meaning.{code, arity, declares, signature, Located, located, with_tag, fields_of, signature_of}
+use Rattle.book.specs.Meaning.{code, arity, signature, Located, located, with_tag, fields_of, signature_of}
 use Rattle.book.proofs.FieldBytes.{length_there}
 use Rattle.book.proofs.Pairs.{ValueThere}
-use Rattle.polynomials.specs.Polynomial.{Monomial, Polynomial, exponent, degree}
+use Rattle.polynomials.specs.Polynomial.{Polynomial, degree}
 use Rattle.polynomials.specs.Coding.{monomials_at, polynomial_from}
 use Rattle.polynomials.specs.Interpretation.{Positive, ProperFor, Proper}
 use Rattle.orders.specs.Figures.{HasField, AllHave}

@@ -1,9 +1,8 @@
 -- The monomials of a polynomial, one after the other.
-use Rattle.std.proofs.Common.{◌≡◌, ℕ, zero, suc, ◌+◌, ◌-◌, ◌*◌, ◌/◌, ◌<◌, ◌≤◌, max, Bool, true, false, ◌⊎◌, List, [], ◌∷◌, ◌++◌, length, get_or, sym, refl, ap, ◌∙◌, subst, ap₂, inl, inr, append_assoc, append-nil, arith}
-use Rattle.std.proofs.lemmas.Bool.{cases_lt}
+use Rattle.std.proofs.Common.{◌≡◌, ℕ, zero, suc, ◌+◌, ◌-◌, ◌*◌, ◌/◌, ◌<◌, ◌≤◌, List, [], ◌∷◌, ◌++◌, length, get_or, sym, refl, ap, ◌∙◌, subst, ap₂, inl, inr, append_assoc, append-nil, arith}
 use Rattle.polynomials.specs.Polynomial.{Exponents, exponent, Monomial, Polynomial, degree}
 use Rattle.polynomials.specs.Coding.{monomial_at, monomials_at, polynomial_from}
-use Rattle.orders.specs.Polynomials.{HasExponents, MonomialFits, MonomialsFit, HasArguments}
+use Rattle.orders.specs.Polynomials.{HasExponents, MonomialFits, MonomialsFit}
 
 -- ── the exponents of one ──
 

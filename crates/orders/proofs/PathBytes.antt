@@ -1,8 +1,8 @@
 -- The path order on prefix bytes: what each return of the deciding functions comes from.
-use Rattle.std.proofs.Common.{◌≡◌, ℕ, ◌+◌, ◌-◌, ◌<◌, ◌≤◌, Bool, true, false, ◌⊎◌, List, [], ◌∷◌, ◌++◌, length, get_or, take, drop, Some, None, Decides, Option, unwrap_or, sym, refl, ap, ◌∙◌, subst, ap₂, subst₂, inl, inr, append-nil, arith, length-append, length-drop}
-use Rattle.std.proofs.lemmas.List.{take_at, drop_at, take_rest, drop-drop, drop_all}
-use Rattle.terms.specs.Term.{Kind, one, many, Tree, var, node, nil, cons, Term, Terms, how_many, size}
-use Rattle.terms.specs.Prefix.{Arities, prefix, WellSorted, Reads, Begins, FirstTerm}
+use Rattle.std.proofs.Common.{◌≡◌, ℕ, ◌+◌, ◌-◌, ◌<◌, ◌≤◌, Bool, true, false, ◌⊎◌, List, length, get_or, take, drop, Some, None, Decides, Option, unwrap_or, sym, refl, ap, ◌∙◌, subst, ap₂, subst₂, inl, inr, arith, length-append, length-drop}
+use Rattle.std.proofs.lemmas.List.{take_at, drop_at, take_rest, drop-drop}
+use Rattle.terms.specs.Term.{var, node, nil, cons, Term, Terms, how_many, size}
+use Rattle.terms.specs.Prefix.{Arities, prefix, WellSorted, Reads, FirstTerm}
 use Rattle.terms.proofs.Reading.{prefix_length, size_pos, same_bytes_same_term}
 use Rattle.terms.proofs.Parts.{begins_unique, first_within}
 use Rattle.order_theory.specs.Path.{Greater, by_argument, SomeAtLeast, is_first, in_first, in_rest, GreaterThanAll, than_none, than_next, Common, from_the_start, one_more}

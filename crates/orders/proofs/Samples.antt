@@ -1,15 +1,12 @@
 -- The small examples of figures.
-use Rattle.std.proofs.Common.{◌≡◌, ℕ, zero, suc, ◌<◌, ◌≤◌, ◌⊎◌, List, [], ◌∷◌, ◌++◌, refl, inl, inr, arith, lit<, lit≤}
-use Rattle.polynomials.specs.Polynomial.{Polynomial, exponent, degree}
+use Rattle.std.proofs.Common.{◌≡◌, ℕ, zero, suc, ◌≤◌, [], refl, inl, inr, arith, lit<, lit≤}
+use Rattle.polynomials.specs.Polynomial.{exponent}
 use Rattle.polynomials.specs.Coding.{polynomial_from}
 use Rattle.polynomials.specs.Examples.{first_argument}
-use Rattle.book.specs.Meaning.{Located, fields_of, signature_of}
-use Rattle.orders.specs.Figures.{FirstFor, Figured}
 use Rattle.orders.specs.FieldQuestions.{Answered}
-use Rattle.orders.specs.PathFaults.{RanksRefused}
-use Rattle.orders.specs.Polynomials.{MonomialFits, MonomialsFit, HasArguments, polynomial_questions, interpretation_of}
+use Rattle.orders.specs.Polynomials.{MonomialsFit, HasArguments, polynomial_questions, interpretation_of}
 use Rattle.orders.specs.PolynomialFaults.{PolynomialsRefused}
-use Rattle.orders.specs.Examples.{bare, ranked, ranked_wrongly, multiplied_by, FiguresHoldAndFail}
+use Rattle.orders.specs.Examples.{multiplied_by, FiguresHoldAndFail}
 
 one_fits : (c : ℕ) → 1 ≤ c → c ≤ 65535 → MonomialsFit 1 [] (first_argument c 1)
 one_fits c least most = (record { least = least; most = most; small = small; absent = absent; new = λ h. h }, tt)

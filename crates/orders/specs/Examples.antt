@@ -1,6 +1,5 @@
 -- Small examples: each definition of figures holds of something and fails of something. The one symbol is f with the code 2 and one argument.
 use Rattle.std.specs.Prelude.{◌≡◌, ℕ, List, [], ◌∷◌, ◌++◌}
-use Rattle.polynomials.specs.Polynomial.{Polynomial}
 use Rattle.polynomials.specs.Examples.{first_argument}
 use Rattle.orders.specs.Figures.{Figured}
 use Rattle.orders.specs.FieldQuestions.{Answered}

@@ -1,5 +1,5 @@
 -- What is asked of the fields that give an order its figures, whatever their tag.
-use Rattle.std.specs.Prelude.{◌≡◌, ℕ, ◌⊎◌, List, [], ◌∷◌, ◌++◌, None, Option}
+use Rattle.std.specs.Prelude.{◌≡◌, ℕ, ◌⊎◌, List, [], ◌∷◌, ◌++◌, None}
 use Rattle.terms.specs.Prefix.{Arities}
 use Rattle.book.specs.Meaning.{code, Located, fields_of, signature_of}
 

@@ -1,6 +1,6 @@
 -- The ranks of a book's symbols.
-use Rattle.std.specs.Prelude.{◌≡◌, ℕ, ◌+◌, ◌<◌, Bool, cond, List, [], ◌∷◌, length, ◌==◌, nat_lt, slice_index}
-use Rattle.book.specs.Meaning.{code, arity, Located, fields_of}
+use Rattle.std.specs.Prelude.{◌≡◌, ℕ, ◌+◌, ◌<◌, cond, List, [], ◌∷◌, ◌==◌, nat_lt, slice_index}
+use Rattle.book.specs.Meaning.{Located, fields_of}
 
 -- the rank of a code by the first field that gives it one, and 0 if none does; a field of a rank has a code and a rank
 abbrev pub rank_by : List Located → ℕ → ℕ

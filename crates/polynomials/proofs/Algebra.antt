@@ -1,8 +1,8 @@
 -- Products of polynomials commute and associate, as far as their coefficients tell.
-use Rattle.std.proofs.Common.{◌≡◌, ℕ, zero, suc, ◌+◌, ◌*◌, ◌^◌, ◌<◌, ◌≤◌, List, [], ◌∷◌, ◌++◌, length, sym, refl, ap, ◌∙◌, ap₂, le_refl, add-zero, add_assoc, mul_assoc, suc-mul, mul_comm, add-mul, mul-le-mul, add_comm, pow-suc, mul-zero, zero-mul, mul-one, mul-add, arith, pow-add}
+use Rattle.std.proofs.Common.{◌≡◌, ℕ, zero, suc, ◌+◌, ◌*◌, ◌^◌, ◌<◌, ◌≤◌, List, [], ◌∷◌, sym, refl, ap, ◌∙◌, ap₂, le_refl, add-zero, add_assoc, mul_assoc, suc-mul, add-mul, mul-le-mul, add_comm, pow-suc, mul-zero, zero-mul, mul-one, mul-add, arith, pow-add}
 use native.Mathlib.Nat.{pow-zero}
-use Rattle.polynomials.specs.Polynomial.{Exponents, none, together, Monomial, Polynomial, weighed, coefficient, total, degree, constant, product, power}
-use Rattle.polynomials.specs.Cells.{exponents_at, Holds, PowerRoom}
+use Rattle.polynomials.specs.Polynomial.{Exponents, none, together, Polynomial, weighed, total, degree, constant, product, power}
+use Rattle.polynomials.specs.Cells.{Holds, PowerRoom}
 use Rattle.polynomials.proofs.Values.{weighed_product, weighed_agree, weighed_scale}
 use Rattle.polynomials.proofs.Holding.{total_product, degree_product_le}
 

@@ -1,10 +1,9 @@
 -- A polynomial with exponents up to 3 is given by its coefficients at the 256 cells.
-use Rattle.std.proofs.Common.{◌≡◌, ℕ, zero, suc, ◌+◌, ◌-◌, ◌*◌, ◌/◌, ◌%◌, ◌<◌, ◌≤◌, max, Bool, true, false, cond, ◌&&◌, ◌||◌, eqb, ltb, leb, ◌⊎◌, List, [], ◌∷◌, ◌++◌, length, get_or, sym, refl, ap, ◌∙◌, subst, ap₂, inl, inr, le_refl, mod-eq_of_lt, add-mul, mul-le-mul, mul-lt-mul_of_pos_right, mul-zero, zero-mul, mul-one, arith}
-use native.Mathlib.Nat.{div-div-eq-div-mul, le-max_left, le-max_right}
-use Rattle.std.proofs.lemmas.Bool.{cases_eq, cases_Bool, cases_lt, le-ltb, lt-ltb, eqb-true, eq-eqb, ne_eqb, and_parts, and_from, cond-true, cond-false, leb-true, ltb-true, ltb-false, or_parts}
-use Rattle.polynomials.specs.Polynomial.{Exponents, none, Monomial, Polynomial, same, weighed, coefficient, exponent, greatest, degree, product, together}
-use Rattle.polynomials.proofs.Values.{weighed_product, weighed_agree}
-use Rattle.polynomials.specs.Cells.{exponents_at, cell, of_cells, Small, held, Holds, NoCarry, product_at}
+use Rattle.std.proofs.Common.{◌≡◌, ℕ, zero, suc, ◌+◌, ◌*◌, ◌/◌, ◌%◌, ◌<◌, ◌≤◌, true, false, cond, eqb, ltb, [], ◌∷◌, sym, refl, ap, ◌∙◌, ap₂, inl, inr, mod-eq_of_lt, add-mul, mul-zero, zero-mul, mul-one, arith}
+use native.Mathlib.Nat.{div-div-eq-div-mul}
+use Rattle.std.proofs.lemmas.Bool.{cases_eq, cases_Bool, cases_lt, le-ltb, lt-ltb, eqb-true, eq-eqb, and_parts, and_from, cond-true, cond-false}
+use Rattle.polynomials.specs.Polynomial.{Exponents, Polynomial, same, weighed, coefficient}
+use Rattle.polynomials.specs.Cells.{exponents_at, cell, of_cells, Small}
 
 pub same_true : (a b : Exponents) → same a b ≡ true → a ≡ b
 same_true a b h =

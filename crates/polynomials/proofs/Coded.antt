@@ -1,12 +1,12 @@
 -- The polynomials of symbols, read one monomial after the other.
-use Rattle.std.proofs.Common.{◌≡◌, ℕ, zero, suc, ◌+◌, ◌-◌, ◌*◌, ◌/◌, ◌^◌, ◌<◌, ◌≤◌, max, ◌⊎◌, List, [], ◌∷◌, length, get_or, Some, sym, refl, ap, ◌∙◌, ap₂, inl, inr, mul_assoc, mul-one, arith}
+use Rattle.std.proofs.Common.{◌≡◌, ℕ, zero, suc, ◌+◌, ◌-◌, ◌*◌, ◌/◌, ◌^◌, ◌<◌, ◌≤◌, max, List, [], ◌∷◌, length, Some, sym, refl, ap, ◌∙◌, inl, inr, mul_assoc, mul-one, arith}
 use native.Mathlib.Nat.{pow-zero}
 use Rattle.std.proofs.lemmas.Bool.{cases_lt}
-use Rattle.polynomials.specs.Polynomial.{Exponents, Monomial, Polynomial, power_product, value, greatest, dot, degree}
+use Rattle.polynomials.specs.Polynomial.{Polynomial, power_product, value, greatest, dot, degree}
 use Rattle.terms.specs.Prefix.{Arities}
 use Rattle.polynomials.specs.Interpretation.{Interpretation, Proper}
 use Rattle.polynomials.specs.Coding.{monomial_at, monomials_at, polynomial_from, cut_off}
-use Rattle.polynomials.proofs.Limits.{cut_le, cut_small, cut_twice, cut_factor, add_alike}
+use Rattle.polynomials.proofs.Limits.{cut_twice, cut_factor, add_alike}
 
 -- the monomials from the k-th on
 unfoldable pub left_from : List ℕ → ℕ → Polynomial

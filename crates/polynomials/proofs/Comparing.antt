@@ -1,7 +1,7 @@
 -- Tables are compared as the polynomials that they hold.
-use Rattle.std.proofs.Common.{◌≡◌, ℕ, ◌<◌, ◌≤◌, Bool, true, false, ltb, ◌⊎◌, List, get_or, sym, refl, ap, ◌∙◌, subst, ap₂, inl, inr, arith}
+use Rattle.std.proofs.Common.{◌≡◌, ℕ, ◌<◌, ◌≤◌, true, false, ltb, List, get_or, sym, subst, ap₂, inl, inr, arith}
 use Rattle.std.proofs.lemmas.Bool.{cases_Bool, cases_lt}
-use Rattle.polynomials.specs.Polynomial.{Exponents, none, Polynomial, coefficient, exponent, degree}
+use Rattle.polynomials.specs.Polynomial.{Exponents, Polynomial, coefficient, exponent, degree}
 use Rattle.polynomials.specs.Grade.{any_negative, positive_constant}
 use Rattle.polynomials.specs.Cells.{exponents_at, cell, Small, Holds}
 use Rattle.polynomials.proofs.Cells.{at_cell, cell_below}

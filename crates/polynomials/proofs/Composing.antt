@@ -1,15 +1,15 @@
 -- A monomial with polynomials put for its variables, factor by factor.
-use Rattle.std.proofs.Common.{◌≡◌, ℕ, zero, suc, ◌+◌, ◌*◌, ◌/◌, ◌^◌, ◌<◌, ◌≤◌, cond, ◌⊎◌, List, [], ◌∷◌, ◌++◌, length, get_or, sym, refl, ap, ◌∙◌, subst, ap₂, inl, inr, le_refl, mul_assoc, suc-mul, mul_comm, mul-le-mul, one-mul, pow-suc, mul-zero, zero-mul, mul-one, arith, pow-add}
+use Rattle.std.proofs.Common.{◌≡◌, ℕ, zero, suc, ◌+◌, ◌*◌, ◌/◌, ◌^◌, ◌<◌, ◌≤◌, cond, List, [], ◌∷◌, length, sym, ap, ◌∙◌, subst, ap₂, inl, inr, le_refl, mul_assoc, suc-mul, mul-le-mul, pow-suc, zero-mul, mul-one, arith}
 use native.Mathlib.Nat.{pow-zero, one-le-pow, one-le-mul}
 use Rattle.std.proofs.lemmas.Bool.{cases_eq}
-use Rattle.polynomials.specs.Polynomial.{Exponents, Monomial, Polynomial, weighed, coefficient, total, exponent, degree, constant, product, power, compose_monomial, compose, same}
-use Rattle.polynomials.specs.Cells.{exponents_at, Holds, PowerRoom, MonomialRoom, HoldThree, Each, ComposeRoom}
+use Rattle.polynomials.specs.Polynomial.{Exponents, Monomial, Polynomial, weighed, coefficient, total, degree, constant, product, power, compose_monomial, compose, same}
+use Rattle.polynomials.specs.Cells.{Holds, PowerRoom, MonomialRoom, HoldThree, Each}
 use Rattle.polynomials.specs.Coding.{monomial_at, polynomial_from}
 use Rattle.polynomials.proofs.Degrees.{exponent_none}
 use Rattle.polynomials.proofs.Holding.{total_product, total_power, degree_product_le, coefficient_total}
 use Rattle.polynomials.proofs.Values.{weighed-++}
 use Rattle.polynomials.proofs.Coded.{left_from, left_all, left_more, left_none}
-use Rattle.polynomials.proofs.Algebra.{Same, product_assoc, product_left, product_right, product_one}
+use Rattle.polynomials.proofs.Algebra.{Same, product_assoc, product_right, product_one}
 
 -- a lower power is no larger, unless the number is 0
 pow_lower : (t n j : ℕ) → j ≤ n → (1 ≤ n → 1 ≤ t) → t ^ j ≤ t ^ n

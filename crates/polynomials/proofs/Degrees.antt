@@ -1,12 +1,12 @@
 -- Degrees: what those of products, powers and compositions are, and so the degree of a term's polynomial.
-use Rattle.std.proofs.Common.{◌≡◌, ℕ, zero, suc, ◌+◌, ◌*◌, ◌<◌, ◌≤◌, max, ◌⊎◌, List, [], ◌∷◌, ◌++◌, map, length, get_or, Option, sym, refl, ap, ◌∙◌, ap₂, inl, inr, suc-mul, zero-mul, arith}
-use native.Mathlib.Nat.{le-max_left, le-max_right}
+use Rattle.std.proofs.Common.{◌≡◌, ℕ, zero, suc, ◌+◌, ◌*◌, ◌<◌, ◌≤◌, max, List, [], ◌∷◌, ◌++◌, map, length, get_or, sym, refl, ap, ◌∙◌, ap₂, inl, inr, suc-mul, zero-mul, arith}
+use native.Mathlib.Nat.{le-max_left}
 use Rattle.std.proofs.lemmas.Bool.{cases_lt}
-use lib.ListN.{get_or-map, length-map}
+use lib.ListN.{get_or-map}
 use Rattle.terms.specs.Term.{Kind, one, many, Tree, var, node, nil, cons, Term, Terms, how_many}
 use Rattle.terms.specs.Prefix.{Arities, WellSorted}
 use Rattle.polynomials.specs.Polynomial.{Exponents, none, together, Monomial, Polynomial, exponent, greatest, dot, degree, constant, multiple, product, power, compose_monomial, compose}
-use Rattle.polynomials.specs.Interpretation.{Interpretation, Numbers, unit, variable, shifted_variable, ProperFor, Proper, Polynomials, interpret, polynomial_of, shifted}
+use Rattle.polynomials.specs.Interpretation.{Interpretation, Numbers, unit, variable, shifted_variable, Proper, Polynomials, interpret, polynomial_of, shifted}
 
 -- there is a monomial
 abbrev pub NotEmpty : Polynomial → Type 0

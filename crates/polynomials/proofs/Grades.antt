@@ -1,12 +1,12 @@
 -- Terms of grade 0 are in the order: coefficients that are nowhere smaller, with a greater constant, give greater values.
-use Rattle.std.proofs.Common.{◌≡◌, ℕ, zero, suc, ◌+◌, ◌-◌, ◌*◌, ◌<◌, ◌≤◌, Bool, true, false, cond, ◌||◌, ltb, ◌⊎◌, ◌↔◌, List, [], ◌∷◌, sym, refl, ap, ◌∙◌, subst, ap₂, inl, inr, le_refl, mul-le-mul, mul-lt-mul_of_pos_right, mul-zero, arith}
+use Rattle.std.proofs.Common.{◌≡◌, ℕ, zero, suc, ◌-◌, ◌*◌, ◌<◌, ◌≤◌, Bool, true, false, cond, ◌||◌, ltb, ◌⊎◌, List, [], ◌∷◌, refl, ◌∙◌, subst, inl, inr, le_refl, mul-le-mul, mul-lt-mul_of_pos_right, mul-zero, arith}
 use Rattle.std.proofs.lemmas.Bool.{cases_eq, cases_Bool, le-ltb, ltb-true, ltb-false, or_parts, or_from}
 use Rattle.terms.specs.Term.{Term}
 use Rattle.terms.specs.Prefix.{Arities, WellSorted}
-use Rattle.polynomials.specs.Polynomial.{Exponents, none, Monomial, Polynomial, same, weighed, coefficient, exponent, degree, value, power_product}
+use Rattle.polynomials.specs.Polynomial.{Exponents, none, Polynomial, same, weighed, coefficient, degree, value, power_product}
 use Rattle.polynomials.specs.Interpretation.{Interpretation, least_number, Proper, evaluate, Over, polynomial_of, shifted}
 use Rattle.polynomials.specs.Grade.{steep, large, negative_at, any_negative, positive_constant, grade}
-use Rattle.polynomials.specs.Cells.{exponents_at, of_cells, Small}
+use Rattle.polynomials.specs.Cells.{exponents_at, of_cells}
 use Rattle.polynomials.proofs.Values.{none_power, value_shifted, evaluate_agree, four}
 use Rattle.polynomials.proofs.Degrees.{degree_shifted}
 use Rattle.polynomials.proofs.Cells.{same_true, AllSmall, by_cells}

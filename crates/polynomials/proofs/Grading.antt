@@ -1,10 +1,10 @@
 -- The grade of two terms from their measures and their tables.
-use Rattle.std.proofs.Common.{◌≡◌, ℕ, ◌<◌, ◌≤◌, Bool, true, false, cond, ◌||◌, ltb, ◌⊎◌, List, [], ◌∷◌, ◌++◌, sym, refl, ap, ◌∙◌, subst, ap₂, inl, inr, append-nil, arith}
+use Rattle.std.proofs.Common.{◌≡◌, ℕ, ◌<◌, ◌≤◌, Bool, false, cond, ◌||◌, ltb, List, [], ◌∷◌, sym, ap, ◌∙◌, ap₂, inl, inr, append-nil, arith}
 use Rattle.std.proofs.lemmas.Bool.{cases_lt, lt-ltb, le-ltb, ltb-false, or_parts, cond-false}
 use Rattle.terms.specs.Term.{Term}
 use Rattle.terms.specs.Prefix.{Arities, prefix, WellSorted, Reads, Begins}
 use Rattle.polynomials.specs.Polynomial.{Polynomial, value, degree}
-use Rattle.polynomials.specs.Interpretation.{Interpretation, Proper, evaluate, polynomial_of, shifted}
+use Rattle.polynomials.specs.Interpretation.{Interpretation, Proper, polynomial_of, shifted}
 use Rattle.polynomials.specs.Grade.{steep, large, any_negative, positive_constant, grade}
 use Rattle.polynomials.specs.Cells.{TermRoom}
 use Rattle.polynomials.specs.Coding.{cut_off}

@@ -1,12 +1,12 @@
 -- What a table holds: products of tables are products of polynomials.
-use Rattle.std.proofs.Common.{◌≡◌, ℕ, zero, suc, ◌+◌, ◌*◌, ◌^◌, ◌<◌, ◌≤◌, max, Bool, true, false, cond, ◌⊎◌, List, [], ◌∷◌, ◌++◌, length, get_or, sym, refl, ap, ◌∙◌, subst, ap₂, inl, inr, le_refl, add_assoc, mul_assoc, mul_comm, add-mul, mul-le-mul, one-mul, pow-suc, mul-zero, zero-mul, mul-one, mul-add, arith}
-use native.Mathlib.Nat.{pow-zero, le-max_left}
-use Rattle.std.proofs.lemmas.Bool.{cases_Bool, cases_lt}
-use Rattle.polynomials.specs.Polynomial.{Exponents, none, together, same, exponent, Monomial, Polynomial, weighed, coefficient, total, greatest, degree, constant, multiple, product, power}
-use Rattle.polynomials.specs.Cells.{exponents_at, of_cells, Small, held, Holds, NoCarry, product_at, PowerRoom}
-use Rattle.polynomials.proofs.Values.{weighed-++, weighed_product, weighed_agree, weighed_scale}
-use Rattle.polynomials.proofs.Degrees.{exponent_none, exponent_together}
-use Rattle.polynomials.proofs.Cells.{same_true, small_at, of_agree, AllSmall, by_cells}
+use Rattle.std.proofs.Common.{◌≡◌, ℕ, zero, suc, ◌+◌, ◌*◌, ◌^◌, ◌<◌, ◌≤◌, max, cond, List, [], ◌∷◌, ◌++◌, length, get_or, sym, ap, ◌∙◌, inl, inr, mul_comm, add-mul, one-mul, pow-suc, mul-zero, zero-mul, mul-one, arith}
+use native.Mathlib.Nat.{pow-zero}
+use Rattle.std.proofs.lemmas.Bool.{cases_Bool}
+use Rattle.polynomials.specs.Polynomial.{Exponents, together, same, exponent, Monomial, Polynomial, weighed, coefficient, total, degree, multiple, product, power}
+use Rattle.polynomials.specs.Cells.{exponents_at, held, Holds, NoCarry, product_at, PowerRoom}
+use Rattle.polynomials.proofs.Values.{weighed_product, weighed_agree}
+use Rattle.polynomials.proofs.Degrees.{exponent_together}
+use Rattle.polynomials.proofs.Cells.{same_true, of_agree, by_cells}
 use Rattle.polynomials.proofs.Grades.{small_from}
 
 -- ── totals ──

@@ -1,5 +1,5 @@
 -- The order that a proper interpretation gives is a reduction order.
-use Rattle.std.proofs.Common.{◌≡◌, ℕ, zero, suc, ◌+◌, ◌*◌, ◌^◌, ◌<◌, ◌≤◌, max, ◌⊎◌, List, [], ◌∷◌, ◌++◌, map, length, get_or, sym, refl, ap, ◌∙◌, ap₂, inl, inr, le_refl, mul-le-mul, mul-lt-mul_of_pos_right, arith}
+use Rattle.std.proofs.Common.{◌≡◌, ℕ, zero, suc, ◌*◌, ◌^◌, ◌<◌, ◌≤◌, List, [], ◌∷◌, length, get_or, refl, ap, ◌∙◌, ap₂, inl, inr, le_refl, mul-le-mul, mul-lt-mul_of_pos_right, arith}
 use mathlib.Core.WellFounded.{Acc}
 use native.Mathlib.Nat.{one-le-mul, one-le-pow, pow-zero, mul-lt-mul_of_pos_left, pow-le-pow_left, pow-lt-pow_left, le-max_left, le-max_right}
 use native.Mathlib.Decide.{dec_le, dec_lt}
@@ -10,7 +10,7 @@ use Rattle.terms.specs.Place.{Context, hole, under, head, tail, plug}
 use Rattle.rewriting.specs.Order.{OverOf, SubstOf, ReductionOrder}
 use Rattle.rewriting.proofs.Sorted.{sorted_plug}
 use Rattle.polynomials.specs.Polynomial.{Exponents, Monomial, Polynomial, power_product, value, exponent, greatest, degree}
-use Rattle.polynomials.specs.Interpretation.{Interpretation, least_number, Positive, ProperFor, Proper, Numbers, evaluate, Over}
+use Rattle.polynomials.specs.Interpretation.{Interpretation, least_number, Positive, Proper, Numbers, evaluate, Over}
 use Rattle.polynomials.proofs.Values.{evaluate_agree}
 use Rattle.polynomials.proofs.Degrees.{Absent}
 

@@ -1,8 +1,8 @@
 -- Numbers that are cut off at a limit: sums and products may be cut off on the way, and nothing is lost.
-use Rattle.std.proofs.Common.{◌≡◌, ℕ, zero, suc, ◌+◌, ◌*◌, ◌^◌, ◌<◌, ◌≤◌, min, max, ◌⊎◌, List, [], ◌∷◌, map, length, get_or, sym, refl, ap, ◌∙◌, ap₂, inl, inr, le_refl, mul_assoc, mul_comm, mul-le-mul, pow-suc, mul-zero, mul-one, arith}
+use Rattle.std.proofs.Common.{◌≡◌, ℕ, zero, suc, ◌+◌, ◌*◌, ◌^◌, ◌<◌, ◌≤◌, max, List, [], ◌∷◌, get_or, sym, refl, ap, ◌∙◌, inl, inr, le_refl, mul_comm, mul-le-mul, pow-suc, mul-zero, mul-one, arith}
 use native.Mathlib.Nat.{pow-zero}
 use Rattle.std.proofs.lemmas.Bool.{cases_lt, cases_eq}
-use Rattle.polynomials.specs.Polynomial.{Exponents, Monomial, Polynomial, power_product, value, greatest, dot}
+use Rattle.polynomials.specs.Polynomial.{Exponents, Polynomial, power_product, value, greatest, dot}
 use Rattle.polynomials.specs.Coding.{cut_off}
 
 module _ (limit : ℕ) where

@@ -1,12 +1,12 @@
 -- What is measured of a term: its value with every variable at 2, and its degrees.
-use Rattle.std.proofs.Common.{◌≡◌, ℕ, zero, suc, ◌+◌, ◌-◌, ◌<◌, ◌≤◌, cond, eqb, ◌⊎◌, List, [], ◌∷◌, get_or, sym, refl, ap, ◌∙◌, ap₂, inl, inr, arith}
+use Rattle.std.proofs.Common.{◌≡◌, ℕ, zero, suc, ◌+◌, ◌-◌, ◌<◌, ◌≤◌, cond, eqb, List, ◌∷◌, get_or, sym, refl, ap, ◌∙◌, ap₂, inl, inr, arith}
 use Rattle.std.proofs.lemmas.Bool.{cases_lt, eq-eqb, ne_eqb, cond-true, cond-false}
 use Rattle.terms.specs.Term.{Kind, Tree, var, node, nil, cons, Term}
 use Rattle.terms.specs.Prefix.{Arities, WellSorted}
 use Rattle.polynomials.specs.Polynomial.{Exponents, Polynomial, exponent, value, greatest, dot, degree}
-use Rattle.polynomials.specs.Interpretation.{Interpretation, Proper, Numbers, unit, evaluate, polynomial_of}
+use Rattle.polynomials.specs.Interpretation.{Interpretation, Proper, unit, evaluate, polynomial_of}
 use Rattle.polynomials.specs.Coding.{cut_off}
-use Rattle.polynomials.specs.Measured.{of_variable, of_symbol, measured}
+use Rattle.polynomials.specs.Measured.{of_symbol, measured}
 use Rattle.polynomials.specs.declared.measure.Measure.{Measure}
 use Rattle.polynomials.specs.declared.measure.Measure.TheVariants.{ValueAtTwo, Degree}
 use Rattle.polynomials.proofs.Limits.{value_alike, greatest_alike}

@@ -1,7 +1,7 @@
 -- The product of two tables, summed up row by row.
-use Rattle.std.proofs.Common.{◌≡◌, ℕ, zero, suc, ◌+◌, ◌*◌, ◌<◌, ◌≤◌, Bool, true, false, cond, ◌⊎◌, List, [], ◌∷◌, ◌++◌, length, get_or, sym, refl, ap, ◌∙◌, ap₂, inl, inr, mul-zero, zero-mul, mul-one, arith}
+use Rattle.std.proofs.Common.{◌≡◌, ℕ, zero, suc, ◌+◌, ◌*◌, ◌<◌, ◌≤◌, true, false, cond, List, length, get_or, sym, refl, ap, ◌∙◌, inl, inr, mul-zero, zero-mul, mul-one, arith}
 use Rattle.std.proofs.lemmas.Bool.{cases_eq, cases_Bool}
-use Rattle.polynomials.specs.Polynomial.{Exponents, together, Monomial, Polynomial, same, weighed, coefficient, multiple, product}
+use Rattle.polynomials.specs.Polynomial.{together, Monomial, Polynomial, same, coefficient, multiple, product}
 use Rattle.polynomials.specs.Cells.{exponents_at, cell, of_cells, held, Small, product_at}
 use Rattle.polynomials.proofs.Values.{weighed-++}
 use Rattle.polynomials.proofs.Cells.{same_true, same_refl, at_cell, cell_at, cell_below}

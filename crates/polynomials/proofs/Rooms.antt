@@ -1,14 +1,14 @@
 -- There is room for the arguments of a term, and for its symbol's polynomial, where there is room for the term.
-use Rattle.std.proofs.Common.{◌≡◌, ℕ, zero, suc, ◌+◌, ◌*◌, ◌^◌, ◌<◌, ◌≤◌, max, ◌⊎◌, List, [], ◌∷◌, ◌++◌, map, length, get_or, Some, sym, refl, ap, ◌∙◌, subst, ap₂, inl, inr, le_refl, mul-le-mul, one-mul, pow-suc, zero-mul, mul-one, arith}
-use native.Mathlib.Nat.{one-le-pow, pow-zero, one-le-mul, le-max_left, le-max_right}
+use Rattle.std.proofs.Common.{◌≡◌, ℕ, zero, suc, ◌+◌, ◌*◌, ◌^◌, ◌<◌, ◌≤◌, max, ◌⊎◌, List, [], ◌∷◌, ◌++◌, map, length, get_or, sym, refl, ap, ◌∙◌, inl, inr, le_refl, mul-le-mul, one-mul, pow-suc, zero-mul, mul-one, arith}
+use native.Mathlib.Nat.{one-le-pow, pow-zero, one-le-mul}
 use lib.ListN.{get_or-map, length-map}
 use Rattle.std.proofs.lemmas.Bool.{cases_eq, cases_lt}
 use Rattle.std.proofs.lemmas.List.{get_or_past}
-use Rattle.terms.specs.Term.{Kind, one, many, Tree, var, node, nil, cons, Term, Terms, how_many}
+use Rattle.terms.specs.Term.{Kind, Tree, node, nil, cons, Term, Terms, how_many}
 use Rattle.terms.specs.Prefix.{Arities, WellSorted, behind, head_term}
 use Rattle.rewriting.proofs.Termination.{sorted_wider}
-use Rattle.polynomials.specs.Polynomial.{Exponents, none, together, Monomial, Polynomial, weighed, total, exponent, power_product, value, greatest, dot, degree, constant, product, power, compose}
-use Rattle.polynomials.specs.Interpretation.{Interpretation, Positive, ProperFor, Proper, Numbers, evaluate, interpret, unit, shifted_variable, polynomial_of, shifted}
+use Rattle.polynomials.specs.Polynomial.{Exponents, none, Polynomial, total, exponent, power_product, value, greatest, dot, degree, constant, product, power, compose}
+use Rattle.polynomials.specs.Interpretation.{Interpretation, Positive, ProperFor, Proper, Numbers, evaluate, interpret, unit, shifted_variable, shifted}
 use Rattle.polynomials.specs.Cells.{Each, MonomialRoom, ComposeRoom, TermRoom}
 use Rattle.polynomials.proofs.Values.{weighed_agree, value_shifted}
 use Rattle.polynomials.proofs.Degrees.{Absent, rise, degree_polynomial, degree_shifted, greatest_interpret, exponent_none, exponent_together}

@@ -1,8 +1,8 @@
 -- A walk through the arguments of a term, with a table for each.
-use Rattle.std.proofs.Common.{◌≡◌, ℕ, zero, suc, ◌+◌, ◌<◌, ◌≤◌, cond, ltb, ◌⊎◌, List, [], ◌∷◌, length, get_or, drop, Some, Option, sym, refl, ap, ◌∙◌, subst, inl, inr, arith}
+use Rattle.std.proofs.Common.{◌≡◌, ℕ, ◌+◌, ◌<◌, ◌≤◌, cond, ltb, List, [], ◌∷◌, length, get_or, drop, Some, sym, ap, ◌∙◌, subst, inl, inr, arith}
 use Rattle.std.proofs.lemmas.Bool.{cases_lt, lt-ltb, le-ltb, cond-true, cond-false}
 use Rattle.std.proofs.lemmas.List.{get_or_past}
-use Rattle.terms.specs.Term.{Term, Terms, node, how_many, size}
+use Rattle.terms.specs.Term.{Term, node, how_many, size}
 use Rattle.terms.specs.Prefix.{Arities, WellSorted, Begins}
 use Rattle.polynomials.specs.Polynomial.{Polynomial, compose}
 use Rattle.polynomials.specs.Interpretation.{Interpretation, Proper, interpret, shifted_variable, shifted}

@@ -1,8 +1,8 @@
 -- Tables and the polynomials that they hold.
-use Rattle.std.proofs.Common.{◌≡◌, ℕ, zero, suc, ◌+◌, ◌*◌, ◌<◌, ◌≤◌, Bool, true, false, cond, ◌≢◌, ◌⊎◌, List, [], ◌∷◌, ◌++◌, length, get_or, set, replicate, sym, refl, ap, ◌∙◌, subst, ap₂, inl, inr, mul_comm, mul-zero, mul-one, arith, get_or-set_other, get_or-set_same}
+use Rattle.std.proofs.Common.{◌≡◌, ℕ, ◌+◌, ◌*◌, ◌<◌, ◌≤◌, true, false, ◌≢◌, List, [], length, get_or, set, replicate, sym, ap, ◌∙◌, inl, inr, mul_comm, mul-zero, mul-one, arith, get_or-set_other, get_or-set_same}
 use Rattle.std.proofs.lemmas.List.{get_or-replicate, length-replicate, length-set}
 use Rattle.std.proofs.lemmas.Bool.{cases_eq, cases_Bool}
-use Rattle.polynomials.specs.Polynomial.{Exponents, none, Monomial, Polynomial, same, weighed, coefficient, monomial, constant, sum}
+use Rattle.polynomials.specs.Polynomial.{Polynomial, same, coefficient, monomial, constant, sum}
 use Rattle.polynomials.specs.Cells.{exponents_at, cell, Holds}
 use Rattle.polynomials.proofs.Cells.{same_true, same_refl, cell_at}
 

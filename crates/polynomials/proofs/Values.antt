@@ -1,9 +1,9 @@
 -- The values of sums, products, powers and compositions of polynomials, and so of the polynomial of a term.
-use Rattle.std.proofs.Common.{◌≡◌, ℕ, zero, suc, ◌+◌, ◌*◌, ◌^◌, ◌<◌, ◌≤◌, Bool, true, false, cond, ◌⊎◌, List, [], ◌∷◌, ◌++◌, map, get_or, sym, refl, ap, ◌∙◌, ap₂, inl, inr, add-zero, add_assoc, mul_assoc, mul_comm, add-mul, one-mul, pow-suc, mul-zero, zero-add, zero-mul, mul-one, mul-add, mul_left_comm, arith, pow-add}
-use native.Mathlib.Nat.{mul-mul-mul_comm, pow-zero, pow-succ'}
+use Rattle.std.proofs.Common.{◌≡◌, ℕ, zero, suc, ◌+◌, ◌*◌, ◌^◌, ◌<◌, ◌≤◌, List, [], ◌∷◌, ◌++◌, map, get_or, sym, refl, ap, ◌∙◌, ap₂, inl, inr, add-zero, add_assoc, mul_assoc, add-mul, one-mul, pow-suc, mul-zero, zero-add, zero-mul, mul-one, mul-add, mul_left_comm, arith, pow-add}
+use native.Mathlib.Nat.{pow-zero, pow-succ'}
 use Rattle.std.proofs.lemmas.Bool.{cases_eq}
 use lib.ListN.{get_or-map}
-use Rattle.terms.specs.Term.{Kind, one, many, Tree, var, node, nil, cons, Term, Terms}
+use Rattle.terms.specs.Term.{Kind, one, many, Tree, var, node, nil, cons, Term}
 use Rattle.terms.specs.Prefix.{Arities, WellSorted}
 use Rattle.polynomials.specs.Polynomial.{Exponents, none, together, Monomial, Polynomial, weighed, power_product, value, constant, multiple, product, power, compose_monomial, compose}
 use Rattle.polynomials.specs.Interpretation.{Interpretation, least_number, Numbers, evaluate, Polynomials, interpret, variable, shifted_variable, polynomial_of, shifted}

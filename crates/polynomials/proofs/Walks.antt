@@ -1,8 +1,8 @@
 -- A walk through the arguments of a term, over the bytes that the term begins.
-use Rattle.std.proofs.Common.{◌≡◌, ℕ, zero, suc, ◌+◌, ◌-◌, ◌<◌, ◌≤◌, ◌≢◌, ◌⊎◌, List, [], ◌∷◌, ◌++◌, length, get_or, drop, set, Some, None, Option, sym, refl, ap, ◌∙◌, subst, ap₂, inl, inr, append_assoc, add-one, arith, length-append, length-drop, length-set, get_or-set_other, get_or-set_same, drop-drop}
+use Rattle.std.proofs.Common.{◌≡◌, ℕ, zero, suc, ◌+◌, ◌<◌, ◌≤◌, ◌≢◌, List, [], ◌∷◌, ◌++◌, length, get_or, drop, set, Some, sym, refl, ap, ◌∙◌, subst, inl, inr, append_assoc, arith, length-append, length-drop, length-set, get_or-set_other, get_or-set_same, drop-drop}
 use Rattle.std.proofs.lemmas.List.{drop_at, get_or_past}
 use Rattle.std.proofs.lemmas.Bool.{cases_lt, cases_eq}
-use Rattle.terms.specs.Term.{Kind, one, many, Tree, var, node, nil, cons, Term, Terms, how_many, size}
+use Rattle.terms.specs.Term.{var, node, nil, cons, Term, Terms, how_many, size}
 use Rattle.terms.specs.Prefix.{Arities, prefix, WellSorted, Begins, behind, head_term}
 use Rattle.terms.proofs.Reading.{prefix_length}
 use Rattle.polynomials.specs.Coding.{cut_off}

@@ -1,6 +1,6 @@
 -- Small examples, computed from the definitions. The symbols are e, f and g with the codes 1 to 3; x is the variable 128.
-use Rattle.std.specs.Prelude.{◌≡◌, ℕ, zero, suc, ◌+◌, ◌<◌, ◌≤◌, Bool, true, false, cond, List, [], ◌∷◌, Some, None, Option, ◌==◌, refl}
-use Rattle.std.proofs.Common.{sym, subst, arith}
+use Rattle.std.specs.Prelude.{◌≡◌, ℕ, zero, suc, ◌+◌, ◌<◌, ◌≤◌, Bool, true, false, cond, Some, None, Option, ◌==◌, refl}
+use Rattle.std.proofs.Common.{subst, arith}
 use Rattle.terms.specs.Prefix.{Arities}
 use Rattle.terms.specs.Term.{Term, var, node, nil, cons}
 use Rattle.polynomials.specs.Polynomial.{Polynomial, degree, monomial, constant, constant_term, sum}

@@ -1,5 +1,5 @@
 -- How two terms compare by the coefficients of their polynomials.
-use Rattle.std.specs.Prelude.{◌≡◌, ℕ, Bool, true, false, cond, not, ◌&&◌, ◌||◌, List, [], ◌∷◌, Some, None, Option, nat_lt}
+use Rattle.std.specs.Prelude.{◌≡◌, ℕ, Bool, false, cond, ◌||◌, List, [], ◌∷◌, Some, None, Option, nat_lt}
 use Rattle.terms.specs.Term.{Term}
 use Rattle.terms.specs.Prefix.{Arities, IsTerm, Reads}
 use Rattle.polynomials.specs.Polynomial.{Polynomial, coefficient, constant_term, value, degree}

@@ -1,5 +1,5 @@
 -- Polynomial interpretations of terms, and the order that they give.
-use Rattle.std.specs.Prelude.{◌≡◌, ℕ, ◌+◌, ◌<◌, ◌≤◌, cond, List, [], ◌∷◌, length, Some, ◌==◌}
+use Rattle.std.specs.Prelude.{◌≡◌, ℕ, ◌<◌, ◌≤◌, cond, List, [], ◌∷◌, length, Some, ◌==◌}
 use Rattle.terms.specs.Term.{Kind, one, many, Tree, var, node, nil, cons, Term}
 use Rattle.terms.specs.Prefix.{Arities}
 use Rattle.polynomials.specs.Polynomial.{Exponents, Polynomial, value, degree, monomial, constant, sum, compose}

@@ -1,5 +1,5 @@
 -- Formal polynomials in four variables, numbered from 0, with natural coefficients.
-use Rattle.std.specs.Prelude.{ℕ, zero, suc, ◌+◌, ◌*◌, ◌^◌, max, Bool, true, false, cond, ◌&&◌, List, [], ◌∷◌, ◌++◌, ◌==◌, slice_index, slice_index_or}
+use Rattle.std.specs.Prelude.{ℕ, zero, suc, ◌+◌, ◌*◌, ◌^◌, max, Bool, cond, ◌&&◌, List, [], ◌∷◌, ◌++◌, ◌==◌, slice_index, slice_index_or}
 
 -- the exponents of the four variables in a monomial
 pub record Exponents : Type 0 where

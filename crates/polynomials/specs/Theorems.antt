@@ -1,5 +1,5 @@
 -- The theorems, each on the contract of a function of its own name in src/theorems.rt.
-use Rattle.std.specs.Prelude.{◌≡◌, ℕ, ◌+◌, ◌≤◌, false, ◌↔◌, List, [], ◌∷◌}
+use Rattle.std.specs.Prelude.{◌≡◌, ℕ, ◌+◌, ◌≤◌, false, ◌↔◌, [], ◌∷◌}
 use Rattle.terms.specs.Term.{Term}
 use Rattle.terms.specs.Prefix.{Arities, WellSorted}
 use Rattle.rewriting.specs.Order.{ReductionOrder}

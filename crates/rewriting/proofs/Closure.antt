@@ -1,11 +1,11 @@
 -- Rewriting is closed under contexts and substitutions.
-use Rattle.std.proofs.Common.{◌≡◌, ℕ, ◌<◌, List, length, sym, refl, ap, ◌∙◌, subst, ap₂}
+use Rattle.std.proofs.Common.{◌≡◌, ℕ, ◌<◌, List, length, refl, ap, ◌∙◌}
 use Rattle.rewriting.specs.Relation.{Star, done, step, Joinable}
-use Rattle.terms.specs.Term.{Kind, one, many, Tree, var, node, nil, cons, Term, Terms, Rule, rule_at, Subst, sub, after, Occurs}
-use Rattle.terms.specs.Place.{Context, hole, under, head, tail, plug, sub_context, compose}
+use Rattle.terms.specs.Term.{Kind, Tree, var, node, nil, cons, Term, Terms, Rule, rule_at, Subst, sub, after}
+use Rattle.terms.specs.Place.{Context, hole, under, head, tail, plug, sub_context}
 use Rattle.rewriting.specs.Rewrite.{Step}
-use Rattle.rewriting.proofs.Abstract.{append, single}
-use Rattle.rewriting.proofs.Substitution.{sub_sub, sub_plug, plug_compose}
+use Rattle.rewriting.proofs.Abstract.{append}
+use Rattle.rewriting.proofs.Substitution.{sub_sub, sub_plug}
 
 -- a map that takes steps to steps takes runs to runs, and joins to joins
 module _ {A B : Type 0} {R : A → A → Type 0} {S : B → B → Type 0} (f : A → B) (keeps : (x y : A) → R x y → S (f x) (f y)) where

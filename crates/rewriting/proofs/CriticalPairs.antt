@@ -1,13 +1,13 @@
 -- The critical pair lemma: if every critical pair is joinable, rewriting is locally confluent.
 use Rattle.std.proofs.Common.{◌≡◌, ℕ, ◌<◌, ◌⊎◌, List, length, sym, refl, ap, ◌∙◌, subst, ap₂, subst₂, inl, inr, arith}
 use native.Mathlib.Decide.{ℕ_discrete, dec_lt}
-use Rattle.rewriting.specs.Relation.{Star, done, step, Joinable, LocallyConfluent}
-use Rattle.terms.specs.Term.{Kind, one, many, Tree, var, node, nil, cons, Term, Terms, Rule, rule_at, Subst, sub, after, Occurs, IsNode}
-use Rattle.terms.specs.Place.{Context, hole, under, head, tail, plug, sub_context, compose}
+use Rattle.rewriting.specs.Relation.{Star, done, Joinable, LocallyConfluent}
+use Rattle.terms.specs.Term.{Kind, one, many, Tree, var, node, nil, cons, Term, Terms, Rule, rule_at, Subst, sub, Occurs, IsNode}
+use Rattle.terms.specs.Place.{Context, hole, under, head, tail, plug, sub_context}
 use Rattle.rewriting.specs.Rewrite.{Step, Proper}
-use Rattle.rewriting.proofs.Abstract.{append, single, star_eq, swap, widen}
-use Rattle.rewriting.proofs.Substitution.{sub_cong, sub_agree, sub_sub, sub_factor, sub_plug, plug_compose, context_factor, occurs_plug, update, update_same, update_case}
-use Rattle.rewriting.proofs.Closure.{star_map, join_map, step_node, step_head, step_tail, step_plug, star_plug, join_sub, star_cons, sub_star, step_root}
+use Rattle.rewriting.proofs.Abstract.{append, single, star_eq, swap}
+use Rattle.rewriting.proofs.Substitution.{sub_cong, sub_agree, sub_factor, sub_plug, context_factor, update, update_same, update_case}
+use Rattle.rewriting.proofs.Closure.{star_map, join_map, step_node, step_head, step_tail, step_plug, join_sub, star_cons, sub_star, step_root}
 
 -- 0 and 1 differ
 clash : ◌≡◌ {A = ℕ} 0 1 → ⊥

@@ -1,9 +1,9 @@
 -- Innermost steps: one is there unless the term is a normal form, there is only one, and enough of them lead to a normal form.
-use Rattle.std.proofs.Common.{◌≡◌, ℕ, zero, suc, ◌+◌, ◌-◌, ◌<◌, ◌≤◌, ◌⊎◌, List, length, sym, refl, ap, ◌∙◌, subst, ap₂, inl, inr, arith}
+use Rattle.std.proofs.Common.{◌≡◌, ℕ, zero, suc, ◌+◌, ◌<◌, ◌⊎◌, List, length, sym, refl, ap, ◌∙◌, subst, ap₂, inl, inr, arith}
 use mathlib.Core.WellFounded.{Acc}
-use native.Mathlib.Decide.{ℕ_discrete, dec_lt}
-use Rattle.terms.specs.Term.{Kind, one, Term, Rule, rule_at, Subst, sub, Occurs, IsNode, size}
-use Rattle.terms.specs.Place.{Context, plug, place, part, replace, PartAt}
+use native.Mathlib.Decide.{dec_lt}
+use Rattle.terms.specs.Term.{Term, Rule, rule_at, Subst, sub, size}
+use Rattle.terms.specs.Place.{plug, place, part}
 use Rattle.terms.proofs.Places.{part_at, place_below, place_unique, parts_agree_with_contexts}
 use Rattle.rewriting.specs.Relation.{Normal}
 use Rattle.rewriting.specs.Rewrite.{Matches, Step, StepAt, Proper, MatchedAt, InnermostAt, InnermostStep, InnermostSteps, none, more}

@@ -1,8 +1,8 @@
 -- Equality of terms and matching are decided.
-use Rattle.std.proofs.Common.{◌≡◌, ℕ, zero, suc, ◌+◌, ◌<◌, ◌⊎◌, sym, refl, ap, ◌∙◌, subst, ap₂, inl, inr, arith}
+use Rattle.std.proofs.Common.{◌≡◌, ℕ, ◌⊎◌, refl, ap, ◌∙◌, ap₂, inl, inr, arith}
 use native.Mathlib.Decide.{ℕ_discrete}
-use Rattle.terms.specs.Term.{Kind, one, many, Tree, var, node, nil, cons, Term, Terms, Subst, sub, Occurs}
-use Rattle.rewriting.proofs.Substitution.{sub_cong, sub_agree, sub_var}
+use Rattle.terms.specs.Term.{Kind, Tree, var, node, nil, cons, Term, Subst, sub, Occurs}
+use Rattle.rewriting.proofs.Substitution.{sub_cong, sub_agree}
 use Rattle.rewriting.proofs.Unification.{occurs?}
 
 clash : ◌≡◌ {A = ℕ} 0 1 → ⊥

@@ -1,8 +1,8 @@
 -- Renumbering variables by first appearance: it can be undone, and does not depend on how the variables were named.
-use Rattle.std.proofs.Common.{◌≡◌, ℕ, zero, suc, ◌+◌, ◌-◌, ◌<◌, Bool, true, false, cond, eqb, ◌⊎◌, List, [], ◌∷◌, ◌++◌, map, length, get_or, sym, refl, ap, ◌∙◌, subst, ap₂, inl, inr, arith}
+use Rattle.std.proofs.Common.{◌≡◌, ℕ, suc, ◌+◌, ◌-◌, Bool, true, false, cond, eqb, List, [], ◌∷◌, ◌++◌, map, get_or, sym, refl, ap, ◌∙◌, subst, ap₂, inl, inr, arith}
 use Rattle.std.proofs.lemmas.List.{map-append}
 use Rattle.std.proofs.lemmas.Bool.{eqb-true, eq-eqb}
-use Rattle.terms.specs.Term.{Kind, one, many, Tree, var, node, nil, cons, Term, Terms, Subst, sub, after, Occurs}
+use Rattle.terms.specs.Term.{Kind, Tree, var, node, nil, cons, Term, Subst, sub, after, Occurs}
 use Rattle.rewriting.specs.Unify.{is_in, seen, index, renumbering}
 use Rattle.rewriting.proofs.Substitution.{sub_cong, sub_agree, sub_sub, sub_var}
 

@@ -1,16 +1,15 @@
 -- The critical pair theorem, as textbooks state it, and that an overlap has one peak and one pair of sides.
-use Rattle.std.proofs.Common.{◌≡◌, ℕ, ◌+◌, ◌-◌, ◌<◌, ◌≤◌, ◌⊎◌, ◌↔◌, List, length, sym, refl, ap, ◌∙◌, subst, ap₂, subst₂, inl, inr, arith}
+use Rattle.std.proofs.Common.{◌≡◌, ℕ, ◌+◌, ◌-◌, ◌<◌, ◌≤◌, ◌⊎◌, List, length, sym, refl, ap, ◌∙◌, subst, subst₂, inl, inr, arith}
 use native.Mathlib.Decide.{dec_lt}
-use Rattle.terms.specs.Term.{Kind, one, many, Tree, var, node, nil, cons, Term, Terms, Rule, rule_at, Subst, sub, after, Occurs, IsNode, size}
-use Rattle.terms.specs.Place.{Context, hole, under, head, tail, plug, sub_context, place, part, replace, PartAt}
-use Rattle.terms.proofs.Places.{part_at, place_below, part_plug, replace_plug, parts_agree_with_contexts}
-use Rattle.rewriting.specs.Relation.{Joinable, LocallyConfluent, Confluent, Terminating}
+use Rattle.terms.specs.Term.{Kind, one, Tree, var, node, nil, cons, Term, Rule, rule_at, Subst, sub, Occurs, IsNode, size}
+use Rattle.terms.specs.Place.{Context, hole, under, head, tail, plug, sub_context, place, part, PartAt}
+use Rattle.terms.proofs.Places.{part_at, place_below, parts_agree_with_contexts}
+use Rattle.rewriting.specs.Relation.{Joinable, LocallyConfluent}
 use Rattle.rewriting.specs.Rewrite.{Step, Proper}
 use Rattle.rewriting.specs.Unify.{IsMgu, NotUnifiable, Unifier, distinct, FourVariables, Overlap, renumbering, replaced_at, CriticalPair, OverlapsJoin}
-use Rattle.rewriting.proofs.Abstract.{newman, single}
 use Rattle.rewriting.proofs.Substitution.{sub_cong, sub_sub, sub_factor, sub_plug, occurs_plug}
 use Rattle.rewriting.proofs.Closure.{step_root, step_plug, step_sub, join_sub}
-use Rattle.rewriting.proofs.CriticalPairs.{Overlapping, MostGeneral, CriticalPairsJoinable, critical_pair_lemma}
+use Rattle.rewriting.proofs.CriticalPairs.{MostGeneral, CriticalPairsJoinable, critical_pair_lemma}
 use Rattle.rewriting.proofs.Unification.{unification, occurs_sub}
 use Rattle.rewriting.proofs.Numbering.{numbering_back, unnumber, same_numbers}
 

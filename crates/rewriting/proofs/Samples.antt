@@ -1,14 +1,14 @@
 -- The small examples.
-use Rattle.std.proofs.Common.{◌≡◌, ℕ, zero, suc, ◌+◌, ◌<◌, Bool, true, false, cond, eqb, ◌⊎◌, List, [], ◌∷◌, length, sym, refl, ap, ◌∙◌, subst, ap₂, inl, inr, arith, lit<, lit≤}
+use Rattle.std.proofs.Common.{◌≡◌, ℕ, zero, suc, ◌+◌, ◌<◌, Bool, true, false, cond, eqb, List, [], ◌∷◌, sym, refl, ap, ◌∙◌, subst, inl, inr, arith, lit<, lit≤}
 use Rattle.std.proofs.lemmas.Bool.{eqb-true}
-use Rattle.terms.specs.Term.{one, var, node, nil, cons, Term, Rule, rule_at, Subst, sub, size, Occurs}
-use Rattle.terms.specs.Place.{Context, hole, under, head, tail, plug, place, part}
+use Rattle.terms.specs.Term.{var, nil, Term, Rule, rule_at, Subst, sub, size}
+use Rattle.terms.specs.Place.{hole, under, head, place, part}
 use mathlib.Core.WellFounded.{Acc}
 use Rattle.rewriting.specs.Order.{OverOf}
-use Rattle.rewriting.specs.Relation.{Star, done, step, Joinable, Normal, NormalForm}
-use Rattle.rewriting.specs.Rewrite.{Matches, Step, StepAt, MatchedAt, InnermostAt, InnermostStep, InnermostSteps, none, more}
-use Rattle.rewriting.specs.Unify.{IsMgu, Overlap, CriticalPair, OverlapsJoin, OverlapList, Listed, Triple, distinct}
-use Rattle.rewriting.specs.Examples.{e, f, g, h, x, self_overlapping, no_overlapping, idempotent, SelfOverlapExample, NoOverlapExample, InnermostExample, GrowingExample, RootExample, OrderExample}
+use Rattle.rewriting.specs.Relation.{step, Joinable, Normal}
+use Rattle.rewriting.specs.Rewrite.{Step, MatchedAt, InnermostAt, InnermostStep, none, more}
+use Rattle.rewriting.specs.Unify.{IsMgu, Overlap, CriticalPair, OverlapList, Listed, Triple}
+use Rattle.rewriting.specs.Examples.{e, f, g, x, self_overlapping, idempotent, SelfOverlapExample, NoOverlapExample, InnermostExample, GrowingExample, RootExample, OrderExample}
 use Rattle.rewriting.proofs.Abstract.{normal_unique, single}
 use Rattle.rewriting.proofs.Innermost.{matched_there}
 use Rattle.rewriting.proofs.Pairs.{local_joins}

@@ -1,10 +1,10 @@
 -- The terms of a signature are closed under rewriting.
-use Rattle.std.proofs.Common.{◌≡◌, ℕ, ◌+◌, ◌<◌, ◌⊎◌, List, length, Some, Option, sym, refl, ap, ◌∙◌, subst, inl, inr}
+use Rattle.std.proofs.Common.{◌≡◌, ℕ, ◌+◌, List, Some, Option, sym, refl, ap, ◌∙◌, subst, inl, inr}
 use Rattle.terms.specs.Term.{Kind, one, many, Tree, var, node, nil, cons, Term, Terms, Rule, rule_at, Subst, sub, Occurs, how_many}
 use Rattle.terms.specs.Prefix.{Arities, WellSorted}
 use Rattle.terms.specs.Place.{Context, hole, under, head, tail, plug}
 use Rattle.terms.proofs.Parts.{sorted_part}
-use Rattle.rewriting.specs.Relation.{Star, done, step, Joinable, LocallyConfluent, Confluent, Terminating, Normal, NormalForm}
+use Rattle.rewriting.specs.Relation.{Star, done, step, LocallyConfluent}
 use Rattle.rewriting.specs.Rewrite.{Step, StepOf, Proper, RulesOf}
 
 -- a substitution, and another term in the hole, leave the number of arguments as it is

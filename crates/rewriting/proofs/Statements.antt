@@ -1,11 +1,10 @@
 -- The theorems, put together.
-use Rattle.std.proofs.Common.{◌≡◌, ℕ, ◌<◌, ◌≤◌, ◌⊎◌, ◌↔◌, List, length, sym, refl, ap, ◌∙◌, subst, inl, inr, arith}
-use mathlib.Core.WellFounded.{Acc}
-use Rattle.terms.specs.Term.{Kind, one, Tree, Term, Rule, rule_at, Occurs, Subst, var, node, nil, cons}
+use Rattle.std.proofs.Common.{◌≡◌, ℕ, List, sym, subst, inl, inr, arith}
+use Rattle.terms.specs.Term.{Kind, Tree, Term, Rule, rule_at, Occurs, var, node, nil, cons}
 use Rattle.terms.specs.Prefix.{Arities, WellSorted}
-use Rattle.rewriting.specs.Relation.{Star, done, step, Conversion, same, forth, back, Joinable, LocallyConfluent, Confluent, ChurchRosser, Normal, NormalForm, OneNormalForm, Terminating}
+use Rattle.rewriting.specs.Relation.{Star, done, step, Confluent, ChurchRosser, NormalForm}
 use Rattle.rewriting.specs.Rewrite.{Step, StepOf, Proper, RulesOf, InnermostStep, InnermostSteps, none, more}
-use Rattle.rewriting.specs.Unify.{FourVariables, OverlapsJoin}
+use Rattle.rewriting.specs.Unify.{FourVariables}
 use Rattle.rewriting.specs.Theorems.{NewmansLemma, ConfluentIffChurchRosser, OneNormalFormTheorem, ConvertibleIffSameNormalForm, ConvergentOnGroundTerms, Unification, OneCriticalPair, OneOverlapList, CriticalPairTheorem, KnuthBendixTheorem, JoinedOverlapsSuffice, InnermostStepTheorem, InnermostStepsSuffice}
 use Rattle.rewriting.proofs.Abstract.{newman, church_rosser, conv_append, conv_star, conv_sym, single, nf_unique, word_problem}
 use Rattle.rewriting.proofs.Unification as solving
@@ -13,7 +12,7 @@ use Rattle.rewriting.proofs.Pairs as pairs
 use Rattle.rewriting.proofs.Listing.{overlap_list}
 use Rattle.rewriting.proofs.Listing as listing
 use Rattle.rewriting.proofs.Innermost.{innermost_or_normal, one_innermost, innermost_ends}
-use Rattle.rewriting.proofs.Sorted.{sorted_step, sorted_star, step_of, star_of, local_of, star_out}
+use Rattle.rewriting.proofs.Sorted.{sorted_step, step_of, star_of, local_of}
 use Rattle.rewriting.proofs.Termination.{sorted_wider}
 
 pub newmans_lemma : NewmansLemma

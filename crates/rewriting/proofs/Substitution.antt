@@ -1,7 +1,7 @@
 -- The laws of substitution and of contexts.
-use Rattle.std.proofs.Common.{◌≡◌, ℕ, ◌+◌, ◌<◌, ◌⊎◌, sym, refl, ap, ◌∙◌, subst, ap₂, inl, inr}
+use Rattle.std.proofs.Common.{◌≡◌, ℕ, sym, refl, ap, ◌∙◌, subst, ap₂, inl, inr}
 use native.Mathlib.Decide.{ℕ_discrete}
-use Rattle.terms.specs.Term.{Kind, one, many, Tree, var, node, nil, cons, Term, Terms, Subst, sub, after, Occurs, IsNode}
+use Rattle.terms.specs.Term.{Kind, one, Tree, var, node, nil, cons, Term, Subst, sub, after, Occurs}
 use Rattle.terms.specs.Place.{Context, hole, under, head, tail, plug, sub_context, compose}
 
 -- substitutions that agree on the variables of t do the same to t

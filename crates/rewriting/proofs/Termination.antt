@@ -1,12 +1,11 @@
 -- Rules that fall in a reduction order terminate on the terms of its signature; and induction along accessible descent.
-use Rattle.std.proofs.Common.{◌≡◌, ℕ, ◌+◌, ◌<◌, ◌≤◌, ◌⊎◌, List, length, sym, refl, ap, ◌∙◌, subst, ap₂, subst₂, inl, inr, arith}
+use Rattle.std.proofs.Common.{◌≡◌, ℕ, ◌≤◌, List, sym, refl, subst, subst₂, arith}
 use mathlib.Core.WellFounded.{Acc}
-use Rattle.terms.specs.Term.{Kind, one, Tree, var, node, nil, cons, Term, Rule, rule_at, Subst, sub, Occurs}
+use Rattle.terms.specs.Term.{Kind, Tree, var, node, nil, cons, Term, Rule, rule_at, Subst, sub, Occurs}
 use Rattle.terms.specs.Prefix.{Arities, WellSorted}
-use Rattle.terms.specs.Place.{Context, plug}
 use Rattle.terms.proofs.Parts.{sorted_part}
 use Rattle.rewriting.specs.Relation.{Terminating}
-use Rattle.rewriting.specs.Rewrite.{Step, StepOf, Proper, RulesOf}
+use Rattle.rewriting.specs.Rewrite.{StepOf, Proper, RulesOf}
 use Rattle.rewriting.specs.Order.{OverOf, SubstOf, ReductionOrder, Oriented}
 use Rattle.rewriting.proofs.Substitution.{sub_cong}
 use Rattle.rewriting.proofs.Sorted.{sorted_sub, sorted_var}

@@ -3,10 +3,10 @@
 -- The recursion is on the number of variables that may stand in the two terms, and within that on the first term.
 -- A pair of argument lists is solved from the left. If the first arguments are equal as they stand, the rest is a smaller term.
 -- Otherwise their solution does away with a variable, and the rest, under that solution, has fewer.
-use Rattle.std.proofs.Common.{◌≡◌, ℕ, zero, suc, ◌+◌, ◌<◌, ◌≤◌, ◌⊎◌, List, [], ◌∷◌, ◌++◌, length, sym, refl, ap, ◌∙◌, subst, ap₂, inl, inr, arith}
+use Rattle.std.proofs.Common.{◌≡◌, ℕ, zero, suc, ◌<◌, ◌≤◌, ◌⊎◌, List, [], ◌∷◌, ◌++◌, length, sym, refl, ap, ◌∙◌, subst, ap₂, inl, inr, arith}
 use native.Mathlib.Decide.{ℕ_discrete}
-use Rattle.terms.specs.Term.{Kind, one, many, Tree, var, node, nil, cons, Term, Terms, Subst, sub, after, Occurs, size}
-use Rattle.rewriting.specs.Unify.{Unifier, IsMgu, NotUnifiable}
+use Rattle.terms.specs.Term.{Kind, many, Tree, var, node, nil, cons, Term, Terms, Subst, sub, after, Occurs, size}
+use Rattle.rewriting.specs.Unify.{IsMgu, NotUnifiable}
 use Rattle.rewriting.proofs.Substitution.{sub_cong, sub_sub, sub_var, update, update_same, update_case}
 
 -- ── lists of variables ──

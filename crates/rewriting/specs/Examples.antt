@@ -2,8 +2,8 @@
 -- The symbols are e, f, g and h with the codes 1 to 4; x is the variable 128.
 use Rattle.std.specs.Prelude.{◌≡◌, ℕ, List, [], ◌∷◌}
 use Rattle.terms.specs.Term.{one, var, node, nil, cons, Term, Rule}
-use Rattle.rewriting.specs.Relation.{Joinable, LocallyConfluent, NormalForm, Normal, OneNormalForm}
-use Rattle.rewriting.specs.Rewrite.{Step, Proper, InnermostStep, InnermostSteps}
+use Rattle.rewriting.specs.Relation.{Joinable, LocallyConfluent, NormalForm, Normal}
+use Rattle.rewriting.specs.Rewrite.{Step, InnermostStep, InnermostSteps}
 use Rattle.terms.specs.Prefix.{Arities}
 use Rattle.rewriting.specs.Order.{ReductionOrder}
 use Rattle.rewriting.specs.Unify.{Overlap, CriticalPair, OverlapList}

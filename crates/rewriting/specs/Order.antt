@@ -1,10 +1,9 @@
 -- Reduction orders.
-use Rattle.std.specs.Prelude.{ℕ, ◌+◌, ◌<◌, ◌≤◌, List, length}
+use Rattle.std.specs.Prelude.{ℕ, ◌<◌, ◌≤◌, List, length}
 use mathlib.Core.WellFounded.{Acc}
 use Rattle.terms.specs.Term.{one, Term, Rule, rule_at, Subst, sub}
 use Rattle.terms.specs.Prefix.{Arities, WellSorted}
 use Rattle.terms.specs.Place.{Context, plug}
-use Rattle.rewriting.specs.Rewrite.{Proper, RulesOf}
 
 -- The relation over, between terms of the signature with the eight variables from 128 on.
 pub record OverOf (sig : Arities) (over : Term → Term → Type 0) (t u : Term) : Type 0 where

@@ -1,9 +1,8 @@
 -- Rewriting with a list of rules, which are numbered from 0.
-use Rattle.std.specs.Prelude.{◌≡◌, ℕ, ◌+◌, ◌<◌, ◌≤◌, List, length}
+use Rattle.std.specs.Prelude.{◌≡◌, ℕ, ◌+◌, ◌<◌, List, length}
 use Rattle.terms.specs.Term.{Kind, Tree, Term, Rule, rule_at, Subst, sub, Occurs, IsNode, size}
 use Rattle.terms.specs.Prefix.{Arities, WellSorted}
 use Rattle.terms.specs.Place.{Context, plug, place, part}
-use Rattle.rewriting.specs.Relation.{Normal}
 
 -- the rule k matches the term t: t is an instance of its left side
 pub record Matches (rs : List Rule) (k : ℕ) (t : Term) : Type 0 where

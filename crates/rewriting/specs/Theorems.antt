@@ -1,12 +1,12 @@
 -- The theorems, each on the contract of a function of its own name in src/theorems.rt.
-use Rattle.std.specs.Prelude.{◌≡◌, ℕ, ◌<◌, ◌⊎◌, ◌↔◌, List, length}
+use Rattle.std.specs.Prelude.{◌≡◌, ℕ, ◌⊎◌, ◌↔◌, List}
 use mathlib.Core.WellFounded.{Acc}
 use Rattle.terms.specs.Term.{Kind, one, Tree, Term, Rule, Subst}
 use Rattle.terms.specs.Prefix.{Arities, WellSorted}
-use Rattle.rewriting.specs.Relation.{Star, Conversion, Joinable, LocallyConfluent, Confluent, ChurchRosser, Normal, NormalForm, OneNormalForm, Terminating}
+use Rattle.rewriting.specs.Relation.{Conversion, LocallyConfluent, Confluent, ChurchRosser, Normal, NormalForm, OneNormalForm, Terminating}
 use Rattle.rewriting.specs.Rewrite.{Step, StepOf, Proper, RulesOf, InnermostStep, InnermostSteps}
 use Rattle.rewriting.specs.Unify.{IsMgu, NotUnifiable, FourVariables, CriticalPair, OverlapsJoin, Triple, OverlapList}
-use Rattle.rewriting.specs.Order.{OverOf, ReductionOrder, Oriented}
+use Rattle.rewriting.specs.Order.{OverOf, Oriented}
 
 -- A statement about one relation, made of rewriting with any rules on all terms, and on the terms of any signature.
 abbrev pub OfRewriting : ((Term → Term → Type 0) → Type 0) → Type 0

@@ -1,5 +1,5 @@
 -- Questions asked in sequence have one outcome at most.
-use Rattle.std.proofs.Common.{◌≡◌, ℕ, ◌⊎◌, List, [], ◌∷◌, sym, ◌∙◌, inl, inr}
+use Rattle.std.proofs.Common.{◌≡◌, ℕ, List, [], ◌∷◌, sym, ◌∙◌, inl, inr}
 use Rattle.terms.specs.Question.{Question, AllYes, FirstNo}
 
 pub yes_or_no : (qs : List Question) (n : ℕ) → AllYes qs → FirstNo qs n → ⊥

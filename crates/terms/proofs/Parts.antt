@@ -1,9 +1,9 @@
 -- From the first term in some bytes: whether they are one term, and the part at a place.
-use Rattle.std.proofs.Common.{◌≡◌, ℕ, ◌+◌, ◌-◌, ◌<◌, ◌≤◌, List, [], ◌∷◌, ◌++◌, length, take, drop, Some, None, Option, sym, refl, ap, ◌∙◌, subst, ap₂, append-nil, arith, length-append, length-drop}
+use Rattle.std.proofs.Common.{◌≡◌, ℕ, ◌+◌, ◌-◌, ◌<◌, ◌≤◌, List, [], ◌++◌, length, take, drop, Some, None, Option, sym, ap, ◌∙◌, subst, ap₂, append-nil, arith, length-append, length-drop}
 use Rattle.std.proofs.lemmas.List.{take_at, take_rest, drop_all, nil_from_length}
-use Rattle.terms.specs.Term.{Kind, one, many, Tree, node, nil, cons, Term, how_many, size}
+use Rattle.terms.specs.Term.{Kind, Term, size}
 use Rattle.terms.specs.Prefix.{Arities, prefix, WellSorted, Reads, IsTerm, Begins, FirstTerm}
-use Rattle.terms.specs.Place.{Context, hole, under, head, tail, plug, place, part, PartAt, TermAt, PartOfTerm}
+use Rattle.terms.specs.Place.{Context, hole, under, head, tail, plug, part, TermAt, PartOfTerm}
 use Rattle.terms.proofs.Reading.{prefix_length, size_pos, terms_unique}
 use Rattle.terms.proofs.Places.{bytes_behind, part_at, at_place, parts_agree_with_contexts}
 

@@ -1,8 +1,8 @@
 -- Places in a term: an offset into the prefix form is the same as a context.
-use Rattle.std.proofs.Common.{◌≡◌, ℕ, zero, suc, ◌+◌, ◌-◌, ◌<◌, ◌≤◌, Bool, true, false, cond, List, [], ◌∷◌, ◌++◌, length, take, drop, sym, refl, ap, ◌∙◌, subst, ap₂, append_assoc, append-nil, one-add, arith, length-append, le-ltb, lt-ltb}
+use Rattle.std.proofs.Common.{◌≡◌, ℕ, zero, suc, ◌+◌, ◌-◌, ◌<◌, List, [], ◌∷◌, ◌++◌, length, take, drop, sym, refl, ap, ◌∙◌, subst, ap₂, append_assoc, append-nil, one-add, arith, length-append, le-ltb, lt-ltb}
 use native.Mathlib.Decide.{dec_lt}
 use Rattle.std.proofs.lemmas.List.{take_at, drop_at, drop-drop}
-use Rattle.terms.specs.Term.{Kind, one, many, Tree, var, node, nil, cons, Term, Terms, size}
+use Rattle.terms.specs.Term.{Kind, one, many, Tree, var, node, nil, cons, Term, size}
 use Rattle.terms.specs.Prefix.{prefix}
 use Rattle.terms.specs.Place.{Context, hole, under, head, tail, plug, one_later, position, place, part, replace, PartAt}
 use Rattle.terms.specs.Theorems.{OnePartAtEachPlace, PartsAgreeWithContexts, BytesAtAPlace, PositionTellsThePart}

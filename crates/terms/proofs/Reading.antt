@@ -1,8 +1,7 @@
 -- The prefix form: its length, unique reading, and instances byte by byte.
-use Rattle.std.proofs.Common.{◌≡◌, ℕ, suc, ◌+◌, ◌<◌, ◌≤◌, true, false, cond, ltb, List, [], ◌∷◌, ◌++◌, length, Some, None, Option, sym, refl, ap, ◌∙◌, subst, ap₂, append_assoc, append-nil, one-add, arith, length-append, le-ltb, lt-ltb}
-use Rattle.std.proofs.lemmas.List.{append_cancel_left}
-use Rattle.terms.specs.Term.{Kind, one, many, Tree, var, node, nil, cons, Term, Terms, how_many, size, Subst, sub}
-use Rattle.terms.specs.Prefix.{Arities, prefix, expand, image, WellSorted, Reads, front, behind, put_before, terms_of, head_term, term_of}
+use Rattle.std.proofs.Common.{◌≡◌, ℕ, ◌<◌, ◌≤◌, cond, ltb, List, [], ◌∷◌, ◌++◌, length, Some, None, Option, sym, refl, ap, ◌∙◌, ap₂, append_assoc, append-nil, one-add, arith, length-append, le-ltb, lt-ltb}
+use Rattle.terms.specs.Term.{Kind, Tree, var, node, nil, cons, Term, Terms, how_many, size, Subst, sub}
+use Rattle.terms.specs.Prefix.{Arities, prefix, expand, image, WellSorted, front, behind, put_before, terms_of, head_term, term_of}
 use Rattle.terms.specs.Theorems.{SameBytesSameTerm, NoProperBeginning, BytesReadAsTheirTerm, InstanceByteByByte}
 
 -- the prefix form has one byte for each symbol and variable

@@ -1,8 +1,7 @@
 -- The small examples.
-use Rattle.std.proofs.Common.{◌≡◌, ℕ, ◌⊎◌, List, [], ◌∷◌, None, refl, inl, inr, arith, lit<, lit≤}
-use Rattle.terms.specs.Term.{Term}
+use Rattle.std.proofs.Common.{◌≡◌, ℕ, List, [], ◌∷◌, None, refl, inl, arith, lit<, lit≤}
 use Rattle.terms.specs.Prefix.{IsTerm}
-use Rattle.terms.specs.Examples.{sample, e, fe, hxfe, around, DefinitionsHoldAndFail}
+use Rattle.terms.specs.Examples.{sample, hxfe, DefinitionsHoldAndFail}
 use Rattle.terms.proofs.Scans.{scan, first_is}
 use Rattle.terms.proofs.Parts.{no_term_from_first, first_from_term}
 

@@ -1,11 +1,11 @@
 -- Reading prefix bytes from the left finds the first term, and only terms are found.
-use Rattle.std.proofs.Common.{◌≡◌, ℕ, zero, suc, ◌+◌, ◌-◌, ◌<◌, ◌≤◌, Bool, true, false, cond, ltb, ◌⊎◌, List, [], ◌∷◌, ◌++◌, length, get_or, take, drop, Some, None, Option, sym, refl, ap, ◌∙◌, subst, ap₂, inl, inr, append_assoc, append-nil, arith, length-append, length-drop}
+use Rattle.std.proofs.Common.{◌≡◌, ℕ, zero, suc, ◌+◌, ◌-◌, ◌<◌, ◌≤◌, ◌⊎◌, List, [], ◌∷◌, ◌++◌, length, get_or, drop, Some, None, Option, sym, refl, ap, ◌∙◌, subst, inl, inr, append_assoc, append-nil, arith, length-drop}
 use Rattle.std.proofs.lemmas.Bool.{cases_lt}
-use Rattle.std.proofs.lemmas.List.{take_at, take_rest, take_all, drop_more}
-use Rattle.terms.specs.Term.{Kind, one, many, Tree, var, node, nil, cons, Term, Terms, how_many, size}
-use Rattle.terms.specs.Prefix.{Arities, prefix, WellSorted, Reads, IsTerm, Begins, FirstTerm}
+use Rattle.std.proofs.lemmas.List.{drop_more}
+use Rattle.terms.specs.Term.{var, node, nil, cons, Term, Terms, how_many, size}
+use Rattle.terms.specs.Prefix.{Arities, prefix, WellSorted, FirstTerm}
 use Rattle.terms.specs.Scan.{owes}
-use Rattle.terms.proofs.Reading.{prefix_length, size_pos, join}
+use Rattle.terms.proofs.Reading.{join}
 
 -- a length, if there is one, with n more
 abbrev pub longer : ℕ → Option ℕ → Option ℕ

@@ -1,5 +1,5 @@
 -- Well-sortedness: it has one proof at most, and it stays where symbols are added.
-use Rattle.std.proofs.Common.{◌≡◌, ℕ, ◌+◌, ◌<◌, ◌≤◌, List, Some, None, Option, refl, ap, arith}
+use Rattle.std.proofs.Common.{◌≡◌, ℕ, List, Some, None, Option, refl, ap, arith}
 use mathlib.Core.HLevel.{Discrete, hedberg, ×_prop, ×₃_prop, Unit-prop}
 use mathlib.Core.List.{List-discrete}
 use native.Mathlib.Bridge.{le_prop}

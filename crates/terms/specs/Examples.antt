@@ -1,7 +1,7 @@
 -- Small examples: each definition holds of something and fails of something.
 -- The symbols are e, f and h with the codes 1, 2 and 4 and with 0, 1 and 2 arguments; x is the variable 128.
-use Rattle.std.specs.Prelude.{◌≡◌, ℕ, cond, List, [], ◌∷◌, Some, None, Option, ◌==◌}
-use Rattle.terms.specs.Term.{one, Tree, var, node, nil, cons, Term, IsNode, Occurs, Ground, sub, rule_at, size}
+use Rattle.std.specs.Prelude.{◌≡◌, cond, [], ◌∷◌, Some, None, ◌==◌}
+use Rattle.terms.specs.Term.{one, var, node, nil, cons, Term, IsNode, Occurs, Ground, sub}
 use Rattle.terms.specs.Prefix.{Arities, prefix, IsTerm, term_of}
 use Rattle.terms.specs.Place.{Context, hole, under, head, tail, plug, position, place, part, replace}
 

@@ -1,5 +1,5 @@
 -- Contexts, and where a part stands in a term: by its position, and by its place in the prefix form.
-use Rattle.std.specs.Prelude.{◌≡◌, ℕ, zero, suc, ◌+◌, ◌-◌, ◌<◌, cond, List, [], ◌∷◌, ◌++◌, length, drop, Some, None, Option, nat_lt}
+use Rattle.std.specs.Prelude.{◌≡◌, ℕ, zero, suc, ◌+◌, ◌-◌, ◌<◌, cond, List, [], ◌∷◌, length, drop, Some, None, Option, nat_lt}
 use Rattle.terms.specs.Term.{Kind, one, many, Tree, var, node, nil, cons, Term, Terms, Subst, sub, size}
 use Rattle.terms.specs.Prefix.{Arities, prefix, Reads, Begins}
 

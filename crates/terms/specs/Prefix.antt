@@ -1,5 +1,5 @@
 -- Signatures, the terms of a signature, and their bytes in prefix form.
-use Rattle.std.specs.Prelude.{◌≡◌, ℕ, zero, suc, ◌+◌, ◌<◌, ◌≤◌, cond, List, [], ◌∷◌, ◌++◌, length, Some, None, Option, nat_lt}
+use Rattle.std.specs.Prelude.{◌≡◌, ℕ, zero, suc, ◌+◌, ◌<◌, ◌≤◌, cond, List, [], ◌∷◌, ◌++◌, Some, None, Option, nat_lt}
 use Rattle.terms.specs.Term.{Kind, Tree, var, node, nil, cons, Term, Terms, how_many, size, Subst}
 
 -- a signature: the arity of each code that is a symbol's, and None for every other number

@@ -1,6 +1,6 @@
 -- What is proved of terms, their bytes and their places; each statement stands on the contract of a function of src/theorems.rt.
 use Rattle.std.specs.Prelude.{◌≡◌, ℕ, ◌+◌, ◌<◌, List, [], ◌++◌, take, drop}
-use Rattle.terms.specs.Term.{Kind, one, Tree, Term, Subst, sub, size}
+use Rattle.terms.specs.Term.{one, Term, Subst, sub, size}
 use Rattle.terms.specs.Prefix.{Arities, prefix, expand, image, WellSorted, Reads, term_of}
 use Rattle.terms.specs.Place.{Context, plug, position, place, part, replace, PartAt}
 

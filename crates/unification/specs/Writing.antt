@@ -1,5 +1,5 @@
 -- Terms written under a substitution.
-use Rattle.std.specs.Prelude.{◌≡◌, ℕ, ◌+◌, ◌-◌, ◌<◌, ◌≤◌, List, ◌++◌, length, take, slice_index, slice_range}
+use Rattle.std.specs.Prelude.{◌≡◌, ℕ, ◌+◌, ◌<◌, ◌≤◌, List, ◌++◌, length, take, slice_index, slice_range}
 use Rattle.terms.specs.Term.{Subst}
 use Rattle.terms.specs.Prefix.{image, expand}
 

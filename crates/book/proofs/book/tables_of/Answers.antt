@@ -1,9 +1,8 @@
-use Rattle.std.proofs.Common.{◌≡◌, ℕ, ◌<◌, get_or, sym, refl, ap, ◌∙◌, subst, arith}
+use Rattle.std.proofs.Common.{ℕ, ◌<◌, get_or, ap, ◌∙◌, subst, arith}
 use Rattle.std.proofs.lemmas.Result.{err_from_is_err_and}
 use Rattle.book.specs.Questions.{NotRead}
-use Rattle.book.specs.Tables.{Laid}
 use Rattle.book.specs.Views.{meant}
-use Rattle.book.proofs.Progress.{Progress, field_came, end_came, inside, few_symbols, laid_here, progress_more, progress_end, refused_cut, refused_field}
+use Rattle.book.proofs.Progress.{field_came, end_came, inside, few_symbols, laid_here, progress_more, progress_end, refused_cut, refused_field}
 use Rattle.book.proofs.book.tables_of.Goals as goal
 
 pub returns-in_err-field : goal.returns-in_err-field

@@ -1,6 +1,6 @@
 use Rattle.std.proofs.Common.{◌≡◌, ℕ, ◌<◌, ◌≤◌, true, false, ltb, ◌⊎◌, List, [], ◌∷◌, ◌++◌, get_or, sym, refl, ◌∙◌, subst, inl, inr, arith}
 use Rattle.std.proofs.lemmas.Bool.{cases_Bool, ltb-true, ltb-false}
-use Rattle.book.specs.Meaning.{Located, signature_of, fields_of, fields_from}
+use Rattle.book.specs.Meaning.{Located, fields_of, fields_from}
 use Rattle.book.specs.Queries.{located_as}
 use Rattle.book.proofs.Pairs.{held_pair}
 use Rattle.orders.specs.Figures.{HasField, AllHave}

@@ -1,4 +1,4 @@
-use Rattle.std.proofs.Common.{◌≡◌, ℕ, ◌≤◌, ◌⊎◌, [], get_or, Some, None, Option, unwrap_or, sym, refl, ap, ◌∙◌, subst₂, inl, inr, arith}
+use Rattle.std.proofs.Common.{◌≡◌, ℕ, ◌≤◌, [], get_or, Some, None, Option, unwrap_or, sym, refl, ap, ◌∙◌, subst₂, inl, inr, arith}
 use Rattle.std.proofs.lemmas.List.{take_rest}
 use Rattle.book.specs.Meaning.{signature_of}
 use Rattle.polynomials.specs.Coding.{polynomial_from}

@@ -1,7 +1,7 @@
-use Rattle.std.proofs.Common.{◌≡◌, ℕ, ◌+◌, ◌≤◌, ◌⊎◌, List, [], ◌∷◌, ◌++◌, length, sym, refl, ◌∙◌, subst, inl, inr, arith}
+use Rattle.std.proofs.Common.{[], ◌∷◌, ◌++◌, refl, ◌∙◌, inl, inr, arith}
 use Rattle.std.proofs.lemmas.List.{get_or-replicate}
 use Rattle.std.proofs.lemmas.Result.{err_from_is_err_and}
-use Rattle.book.specs.Meaning.{signature_of, fields_of, fields_from}
+use Rattle.book.specs.Meaning.{signature_of, fields_from}
 use Rattle.book.specs.Queries.{located_as}
 use Rattle.book.proofs.Pairs.{held_value, held_short}
 use Rattle.orders.specs.Polynomials.{polynomial_questions}

@@ -1,4 +1,4 @@
-use Rattle.std.proofs.Common.{◌<◌, ◌≤◌, arith}
+use Rattle.std.proofs.Common.{arith}
 use Rattle.orders.proofs.MonomialLists.{argument_there, argument_nowhere}
 use Rattle.orders.proofs.PathBytes.{says_no, says_yes}
 use Rattle.orders.proofs.monomials.has_argument.Goals as goal

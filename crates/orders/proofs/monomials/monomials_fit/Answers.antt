@@ -1,4 +1,4 @@
-use Rattle.std.proofs.Common.{◌<◌, ◌≤◌, arith}
+use Rattle.std.proofs.Common.{arith}
 use Rattle.orders.proofs.MonomialLists.{fit_more, fit_one, fit_all}
 use Rattle.orders.proofs.PathBytes.{says_no, says_yes, no_of}
 use Rattle.orders.proofs.monomials.monomials_fit.Goals as goal

@@ -1,6 +1,6 @@
-use Rattle.std.proofs.Common.{◌≡◌, ℕ, ◌≤◌, List, [], ◌∷◌, ◌++◌, sym, refl, ◌∙◌, arith}
+use Rattle.std.proofs.Common.{[], ◌∷◌, ◌++◌, refl, ◌∙◌, arith}
 use Rattle.std.proofs.lemmas.List.{get_or-replicate}
-use Rattle.book.specs.Meaning.{signature_of, fields_of, fields_from}
+use Rattle.book.specs.Meaning.{signature_of, fields_from}
 use Rattle.book.specs.Queries.{located_as}
 use Rattle.book.proofs.Pairs.{held_pair, held_short}
 use Rattle.orders.proofs.Placing.{all_first_push, next_split, next_passed, from_the_start}

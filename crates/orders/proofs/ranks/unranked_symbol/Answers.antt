@@ -3,8 +3,8 @@ use Rattle.std.proofs.lemmas.Bool.{cases_Bool, ltb-true, ltb-false}
 use Rattle.book.specs.Meaning.{Located, signature_of, fields_of, fields_from}
 use Rattle.book.specs.Queries.{located_as}
 use Rattle.book.proofs.Pairs.{held_pair, held_codes}
-use Rattle.orders.specs.Figures.{HasField, AllFirst}
-use Rattle.orders.specs.Ranks.{PlacesOf, rank_place}
+use Rattle.orders.specs.Figures.{HasField}
+use Rattle.orders.specs.Ranks.{PlacesOf}
 use Rattle.orders.proofs.Placing.{some_field, no_field, declared_of, all_have_push, next_split, next_passed, from_the_start}
 use Rattle.orders.proofs.ranks.unranked_symbol.Goals as goal
 

@@ -1,4 +1,3 @@
-use Rattle.std.proofs.Common.{◌≡◌}
 use Rattle.polynomials.proofs.grade.grade.Goals as goal
 
 pub grade_terms-requires : goal.grade_terms-requires

@@ -1,4 +1,4 @@
-use Rattle.std.proofs.Common.{◌≡◌, true, false, sym, refl, ◌∙◌}
+use Rattle.std.proofs.Common.{true, false, sym, refl, ◌∙◌}
 use Rattle.polynomials.specs.Interpretation.{shifted}
 use Rattle.polynomials.proofs.Grading.{begins_all, shifted_degrees, left_room, right_room, graded}
 use Rattle.polynomials.proofs.grade.grade_terms.Goals as goal

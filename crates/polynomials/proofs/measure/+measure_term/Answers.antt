@@ -1,10 +1,9 @@
-use Rattle.std.proofs.Common.{◌≡◌, ℕ, ◌+◌, ◌-◌, ◌<◌, ◌≤◌, List, length, get_or, take, drop, sym, refl, ap, ◌∙◌, subst, arith, length-drop, rules}
+use Rattle.std.proofs.Common.{◌≡◌, ℕ, ◌<◌, ◌≤◌, length, get_or, sym, refl, ap, ◌∙◌, subst, arith, length-drop, rules}
 use Rattle.std.proofs.lemmas.List.{take_rest}
-use Rattle.terms.specs.Term.{one, many, Term, Terms, size, node}
+use Rattle.terms.specs.Term.{size}
 use Rattle.terms.specs.Prefix.{Begins}
 use Rattle.polynomials.specs.Measured.{of_symbol, measured}
 use Rattle.polynomials.specs.Coding.{cut_off}
-use Rattle.polynomials.proofs.Limits.{cut_small}
 use Rattle.polynomials.proofs.Coded.{arity_small}
 use Rattle.polynomials.proofs.Measures.{symbol_alike}
 use Rattle.polynomials.proofs.Walks.{arguments, argument, some_byte, is_variable, is_symbol, walk_start, filled_none, filled_le, next_begins, next_within, walk_turn, walk_all}

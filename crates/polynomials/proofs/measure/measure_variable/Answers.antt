@@ -1,4 +1,4 @@
-use Rattle.std.proofs.Common.{◌≡◌, sym, ap, ◌∙◌, arith}
+use Rattle.std.proofs.Common.{sym, ap, ◌∙◌, arith}
 use Rattle.polynomials.specs.Coding.{cut_off}
 use Rattle.polynomials.specs.Measured.{of_variable}
 use Rattle.polynomials.proofs.Limits.{cut_small}

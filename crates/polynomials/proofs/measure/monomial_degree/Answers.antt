@@ -1,4 +1,4 @@
-use Rattle.std.proofs.Common.{◌+◌, ◌*◌, ◌≤◌, get_or, mul-le-mul, arith, rules}
+use Rattle.std.proofs.Common.{◌+◌, ◌≤◌, get_or, mul-le-mul, arith, rules}
 use Rattle.polynomials.proofs.measure.monomial_degree.Goals as goal
 
 pub overflow_add-result : goal.overflow_add-result

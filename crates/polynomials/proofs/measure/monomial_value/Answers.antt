@@ -1,5 +1,4 @@
-use Rattle.std.proofs.Common.{◌≡◌, ◌+◌, ◌*◌, ◌^◌, ◌≤◌, get_or, ap, ◌∙◌, ap₂, arith}
-use Rattle.polynomials.specs.Coding.{cut_off}
+use Rattle.std.proofs.Common.{◌≤◌, get_or, ◌∙◌, arith}
 use Rattle.polynomials.proofs.Limits.{cut_le}
 use Rattle.polynomials.proofs.Coded.{three_factors}
 use Rattle.polynomials.proofs.measure.monomial_value.Goals as goal

@@ -1,4 +1,4 @@
-use Rattle.std.proofs.Common.{◌≡◌, ◌+◌, max, sym, ap, ◌∙◌, arith}
+use Rattle.std.proofs.Common.{◌≡◌, ◌+◌, max, ap, ◌∙◌, arith}
 use Rattle.polynomials.specs.Polynomial.{greatest, dot}
 use Rattle.polynomials.proofs.Coded.{left_from, left_all, left_none, degree_turn}
 use Rattle.polynomials.proofs.measure.symbol_degree.Goals as goal

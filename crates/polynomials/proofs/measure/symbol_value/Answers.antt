@@ -1,4 +1,4 @@
-use Rattle.std.proofs.Common.{◌≡◌, ◌+◌, ◌≤◌, sym, ap, ◌∙◌, add-zero, zero-add, arith}
+use Rattle.std.proofs.Common.{◌+◌, ◌≤◌, sym, ap, ◌∙◌, add-zero, zero-add, arith}
 use Rattle.polynomials.specs.Polynomial.{value}
 use Rattle.polynomials.specs.Coding.{cut_off}
 use Rattle.polynomials.proofs.Limits.{cut_le, cut_small}

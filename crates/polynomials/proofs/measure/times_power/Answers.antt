@@ -1,4 +1,4 @@
-use Rattle.std.proofs.Common.{◌≡◌, ◌*◌, ◌^◌, ◌≤◌, sym, ap, ◌∙◌, mul_assoc, mul-le-mul, pow-suc, mul-one, add-one, arith}
+use Rattle.std.proofs.Common.{◌*◌, ◌^◌, ◌≤◌, ap, ◌∙◌, mul_assoc, mul-le-mul, pow-suc, mul-one, add-one, arith}
 use native.Mathlib.Nat.{pow-zero}
 use Rattle.polynomials.specs.Coding.{cut_off}
 use Rattle.polynomials.proofs.Limits.{cut_le, cut_factor}

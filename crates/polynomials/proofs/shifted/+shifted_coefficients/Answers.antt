@@ -1,6 +1,6 @@
-use Rattle.std.proofs.Common.{◌≡◌, ℕ, ◌+◌, ◌-◌, ◌<◌, ◌≤◌, List, [], ◌∷◌, length, get_or, take, drop, sym, refl, ap, ◌∙◌, subst, arith, length-drop, rules}
+use Rattle.std.proofs.Common.{◌≡◌, ℕ, ◌<◌, ◌≤◌, [], ◌∷◌, length, get_or, sym, ap, ◌∙◌, subst, arith, length-drop, rules}
 use Rattle.std.proofs.lemmas.List.{take_rest}
-use Rattle.terms.specs.Term.{Term, size}
+use Rattle.terms.specs.Term.{size}
 use Rattle.terms.specs.Prefix.{Begins}
 use Rattle.polynomials.specs.Polynomial.{compose}
 use Rattle.polynomials.specs.Interpretation.{shifted}

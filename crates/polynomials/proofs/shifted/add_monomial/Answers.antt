@@ -1,5 +1,5 @@
-use Rattle.std.proofs.Common.{◌≡◌, cond, get_or, sym, refl, ◌∙◌, subst, arith}
-use Rattle.polynomials.specs.Polynomial.{constant, coefficient, same}
+use Rattle.std.proofs.Common.{cond, refl, subst, arith}
+use Rattle.polynomials.specs.Polynomial.{constant, same}
 use Rattle.polynomials.specs.Cells.{exponents_at, Holds}
 use Rattle.polynomials.specs.Coding.{monomial_at}
 use Rattle.polynomials.proofs.Composing.{one_in, two_in, three_in, room_one, room_two, room_three, three_same, three_room}

@@ -1,4 +1,4 @@
-use Rattle.std.proofs.Common.{◌≡◌, [], ◌∷◌, ◌∙◌, arith}
+use Rattle.std.proofs.Common.{[], ◌∷◌, ◌∙◌, arith}
 use Rattle.polynomials.specs.Polynomial.{compose}
 use Rattle.polynomials.specs.Cells.{exponents_at, MonomialRoom}
 use Rattle.polynomials.specs.Coding.{polynomial_from}

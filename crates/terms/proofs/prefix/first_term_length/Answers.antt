@@ -1,4 +1,4 @@
-use Rattle.std.proofs.Common.{◌≡◌, ◌+◌, ◌-◌, length, sym, arith}
+use Rattle.std.proofs.Common.{◌+◌, ◌-◌, length, sym, arith}
 use Rattle.std.proofs.lemmas.Bool.{eqb-true}
 use Rattle.terms.proofs.Scans.{first_is, scan_few, step_more, step_stop, step_few, step_end}
 use Rattle.terms.proofs.prefix.first_term_length.Goals as goal

@@ -1,4 +1,4 @@
-use Rattle.std.proofs.Common.{[], sym, refl, subst, arith}
+use Rattle.std.proofs.Common.{sym, refl, subst, arith}
 use Rattle.book.specs.Tables.{Holds}
 use Rattle.book.proofs.book.Book.empty.Goals as goal
 

@@ -1,4 +1,4 @@
-use Rattle.std.proofs.Common.{◌≡◌, ℕ, ◌<◌, ◌≤◌, List, length, get_or, subst, arith, rules}
+use Rattle.std.proofs.Common.{ℕ, ◌<◌, List, length, get_or, subst, arith, rules}
 use Rattle.book.specs.Meaning.{rules_of}
 use Rattle.book.specs.Tables.{Holds}
 use Rattle.book.specs.Questions.{FieldRead, AtEnd, NotRead}

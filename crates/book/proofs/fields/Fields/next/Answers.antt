@@ -1,4 +1,4 @@
-use Rattle.std.proofs.Common.{◌≡◌, ◌≤◌, length, drop, sym, ap, ◌∙◌, subst, arith}
+use Rattle.std.proofs.Common.{length, drop, sym, ap, ◌∙◌, subst, arith}
 use Rattle.book.specs.Format.{Row}
 use Rattle.book.specs.Questions.{NotRead}
 use Rattle.book.specs.Views.{meant}

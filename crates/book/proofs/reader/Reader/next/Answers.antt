@@ -1,4 +1,4 @@
-use Rattle.std.proofs.Common.{◌≡◌, ◌+◌, ◌*◌, ◌<◌, ◌≤◌, length, get_or, drop, refl, arith, length-drop}
+use Rattle.std.proofs.Common.{refl, arith, length-drop}
 use Rattle.std.proofs.lemmas.List.{drop_all}
 use Rattle.book.proofs.FieldBytes.{length_there, field_there}
 use Rattle.book.proofs.reader.Reader.next.Goals as goal

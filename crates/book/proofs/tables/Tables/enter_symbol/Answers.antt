@@ -1,4 +1,4 @@
-use Rattle.std.proofs.Common.{◌≡◌, ◌+◌, ◌<◌, ◌≤◌, [], ◌∷◌, ◌++◌, length, get_or, set, is_some, sym, refl, ap, ◌∙◌, subst, arith}
+use Rattle.std.proofs.Common.{◌≡◌, ◌+◌, [], ◌∷◌, ◌++◌, length, get_or, set, is_some, sym, refl, ap, ◌∙◌, subst, arith}
 use Rattle.book.specs.Views.{meant}
 use Rattle.book.specs.Tables.{Tabled}
 use Rattle.book.specs.Questions.{SymbolFits}

@@ -1,6 +1,5 @@
-use Rattle.std.proofs.Common.{◌⊎◌, refl, inl}
+use Rattle.std.proofs.Common.{refl, inl}
 use Rattle.std.proofs.lemmas.Result.{err_from_is_err_and}
-use Rattle.book.specs.Meaning.{fields_of}
 use Rattle.book.proofs.Pairs.{held_pair, held_codes}
 use Rattle.orders.proofs.Placing.{table_tells}
 use Rattle.orders.proofs.path.Path.make.Goals as goal

@@ -1,4 +1,4 @@
-use Rattle.std.proofs.Common.{◌≡◌, ◌≤◌, cond, length, get_or, sym, ap, ◌∙◌, arith, lt-ltb, ne_eqb}
+use Rattle.std.proofs.Common.{◌≤◌, cond, length, get_or, sym, ap, ◌∙◌, arith, lt-ltb, ne_eqb}
 use Rattle.std.proofs.lemmas.List.{get_or_past}
 use Rattle.orders.specs.Ranks.{rank_at}
 use Rattle.orders.proofs.path.Path.rank.Goals as goal

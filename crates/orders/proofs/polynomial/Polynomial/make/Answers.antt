@@ -1,4 +1,4 @@
-use Rattle.std.proofs.Common.{◌⊎◌, [], refl, inl, inr}
+use Rattle.std.proofs.Common.{refl, inl, inr}
 use Rattle.std.proofs.lemmas.Result.{err_from_is_err_and}
 use Rattle.book.specs.Meaning.{fields_of}
 use Rattle.book.proofs.Pairs.{held_value, held_codes}

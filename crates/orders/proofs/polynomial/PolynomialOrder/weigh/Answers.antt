@@ -1,4 +1,4 @@
-use Rattle.std.proofs.Common.{◌≡◌, ℕ, List, Some, None, Option, unwrap_or, sym, refl, ap, ◌∙◌}
+use Rattle.std.proofs.Common.{◌≡◌, ℕ, List, Some, None, Option, unwrap_or, sym, ◌∙◌}
 use Rattle.terms.specs.Prefix.{Arities}
 use Rattle.book.specs.Meaning.{signature_of}
 use Rattle.book.specs.Questions.{IsSide}

@@ -1,6 +1,6 @@
-use Rattle.std.proofs.Common.{◌≡◌, ℕ, ◌+◌, ◌-◌, ◌*◌, ◌<◌, ◌≤◌, cond, List, [], length, get_or, take, drop, sym, refl, ap, ◌∙◌, ap₂, arith, lt-ltb, ne_eqb}
+use Rattle.std.proofs.Common.{◌≡◌, ℕ, ◌+◌, ◌-◌, ◌*◌, cond, List, [], length, get_or, take, drop, sym, ap, ◌∙◌, ap₂, arith, lt-ltb, ne_eqb}
 use Rattle.polynomials.specs.Coding.{polynomial_from}
-use Rattle.orders.specs.Polynomials.{length_before, monomials_from, monomials_of, Whole}
+use Rattle.orders.specs.Polynomials.{length_before, monomials_from, Whole}
 use Rattle.orders.proofs.Interpreting.{length_read}
 use Rattle.orders.proofs.polynomial.PolynomialSymbols.monomials.Goals as goal
 

@@ -1,5 +1,5 @@
-use Rattle.std.proofs.Common.{◌≡◌, ℕ, suc, ◌+◌, ◌*◌, ◌<◌, ◌≤◌, length, get_or, refl, add-one, arith, length-set}
-use Rattle.polynomials.proofs.Products.{rows, row, rows_more, rows_zero, row_none, rows_all, rows_none, row_start}
+use Rattle.std.proofs.Common.{◌≡◌, ◌+◌, length, refl, add-one, arith, length-set}
+use Rattle.polynomials.proofs.Products.{rows_more, rows_zero, row_none, rows_all, rows_none, row_start}
 use Rattle.polynomials.proofs.Sums.{within, fits, turned}
 use Rattle.polynomials.proofs.table.Table.add_product.Goals as goal
 use Rattle.polynomials.proofs.table.Table.add_product.Goals.{then-y-ne0, else-y-ne0, then-x-ne0+else-loop-j-test, else-x-ne0}

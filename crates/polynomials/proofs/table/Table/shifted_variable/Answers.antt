@@ -1,4 +1,4 @@
-use Rattle.std.proofs.Common.{◌≡◌, ◌<◌, ◌≢◌, get_or, set, subst, arith}
+use Rattle.std.proofs.Common.{set, subst, arith}
 use Rattle.polynomials.specs.Polynomial.{monomial, constant, sum}
 use Rattle.polynomials.specs.Interpretation.{least_number}
 use Rattle.polynomials.specs.Cells.{Holds}

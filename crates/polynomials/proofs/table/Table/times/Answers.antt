@@ -1,4 +1,4 @@
-use Rattle.std.proofs.Common.{◌≡◌, ◌∙◌, arith}
+use Rattle.std.proofs.Common.{◌∙◌, arith}
 use Rattle.polynomials.proofs.Holding.{times_apart, times_room, times_same}
 use Rattle.polynomials.proofs.table.Table.times.Goals as goal
 
