@@ -97,10 +97,10 @@ pub(crate) fn check_lists(
     inner_list: &[u8],
     page: &mut [u8],
 ) -> Result<(), ShowFault>
-    requires side_fits { SideFits (signature_of book.now.tables.bytes.now) outer.now }
-    requires side_fits_2 { SideFits (signature_of book.now.tables.bytes.now) inner.now }
-    requires even { Even outer_list.now }
-    requires even_2 { Even inner_list.now }
+    requires outer_fits { SideFits (signature_of book.now.tables.bytes.now) outer.now }
+    requires inner_fits { SideFits (signature_of book.now.tables.bytes.now) inner.now }
+    requires outer_even { Even outer_list.now }
+    requires inner_even { Even inner_list.now }
     requires has_room { HasRoom page.old }
     ensures { (a b : Term)
         → Reads (signature_of book.now.tables.bytes.now) 8 outer.now a

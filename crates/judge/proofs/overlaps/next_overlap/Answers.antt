@@ -8,22 +8,22 @@ pub loop-t-init : goal.loop-t-init
 loop-t-init c =
     let b = c.args.book.now in
     let t = b.tables in
-    search_begins (rules_of t.bytes.now) (overlap_ranged t.bytes.now t.arities t.symbols t.rules t.count b.holds) c.args.last.now c.first-behind-t.result c.first-behind-t.ensures.ranged c.first-behind-t.ensures.first
+    search_begins (rules_of t.bytes.now) (overlap_ranged t.bytes.now t.arities t.symbols t.rules t.count b.holds) c.args.last.now c.first_behind-t.result c.first_behind-t.ensures.ranged c.first_behind-t.ensures.first
 
-pub returns-then-is-overlap : goal.returns-then-is-overlap
-returns-then-is-overlap c =
+pub returns-then-is_overlap : goal.returns-then-is_overlap
+returns-then-is_overlap c =
     let b = c.args.book.now in
     let t = b.tables in
-    search_finds (rules_of t.bytes.now) (overlap_ranged t.bytes.now t.arities t.symbols t.rules t.count b.holds) c.args.last.now c.loop-t.t c.loop-t.invariant (c.is-overlap.ensures.0 c.if-is-overlap.true)
+    search_finds (rules_of t.bytes.now) (overlap_ranged t.bytes.now t.arities t.symbols t.rules t.count b.holds) c.args.last.now c.loop-t.t c.loop-t.invariant (c.is_overlap.ensures.0 c.if-is_overlap.true)
 
 pub loop-t-preserved : goal.loop-t-preserved
 loop-t-preserved c =
     let b = c.args.book.now in
     let t = b.tables in
-    search_goes_on (rules_of t.bytes.now) (overlap_ranged t.bytes.now t.arities t.symbols t.rules t.count b.holds) c.args.last.now c.loop-t.t c.following-t.result c.loop-t.invariant (no_of _ _ c.if-is-overlap.false c.is-overlap.ensures) c.following-t.ensures.ranged c.following-t.ensures.number
+    search_goes_on (rules_of t.bytes.now) (overlap_ranged t.bytes.now t.arities t.symbols t.rules t.count b.holds) c.args.last.now c.loop-t.t c.following-t.result c.loop-t.invariant (no_of _ _ c.if-is_overlap.false c.is_overlap.ensures) c.following-t.ensures.ranged c.following-t.ensures.number
 
 pub returns : goal.returns
 returns c =
     let b = c.args.book.now in
     let t = b.tables in
-    search_ends (rules_of t.bytes.now) (overlap_ranged t.bytes.now t.arities t.symbols t.rules t.count b.holds) c.args.last.now c.loop-t.t c.loop-t.invariant (omega (arith, c.loop-t-test.false, c.rule-count.ensures))
+    search_ends (rules_of t.bytes.now) (overlap_ranged t.bytes.now t.arities t.symbols t.rules t.count b.holds) c.args.last.now c.loop-t.t c.loop-t.invariant (omega (arith, c.loop-t-test.false, c.rule_count.ensures))

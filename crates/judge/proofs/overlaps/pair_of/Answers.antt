@@ -7,4 +7,4 @@ pub returns : goal.returns
 returns c =
     let t = c.args.t.now in
     let root : t.p ≡ 0 → t.i < t.j = λ e. elim c.else-t-eq0.branch [ else-t-eq0-via-then-t-eq0+else-t w ↦ omega (arith, w.if-t.false) | else-t-eq0-via-else-t-eq0 w ↦ absurd (w.if-t-eq0.false e) ] in
-    found c.args.book.now.tables.bytes.now t root _ _ _ _ c.in-Some.ensures c.in-Some-sides.ensures c.critical-pair.result c.critical-pair.ensures
+    found c.args.book.now.tables.bytes.now t root _ _ _ _ c.in-Some.ensures c.in-Some-sides.ensures c.critical_pair.result c.critical_pair.ensures

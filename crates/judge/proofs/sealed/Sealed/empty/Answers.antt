@@ -16,5 +16,5 @@ nothing_converges =
       confluent = joined_overlaps_suffice (signature_of []) 8 [] (λ i h. absurd (omega (arith, h))) (λ i h. absurd (omega (arith, h))) (nothing_terminates (signature_of [])) join;
     }
 
-pub invariant-of-result : goal.invariant-of-result
-invariant-of-result c = (∣ subst (λ bs. Convergent (signature_of bs) (rules_of bs)) (sym c.empty.ensures) nothing_converges ∣₁, tt)
+pub invariant_of-result : goal.invariant_of-result
+invariant_of-result c = record { convergent = ∣ subst (λ bs. Convergent (signature_of bs) (rules_of bs)) (sym c.empty.ensures) nothing_converges ∣₁ }
