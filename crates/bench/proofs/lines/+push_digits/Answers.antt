@@ -5,4 +5,4 @@ use Rattle.bench.proofs.lines.+push_digits.Goals as goal
 pub returns : goal.returns
 returns t c =
     let small : 48 + c.args.n % 10 < 128 = omega (arith, mod-lt c.args.n {m = 10} (omega arith)) in
-    pushed c.args.k c.args.n (48 + c.args.n % 10) _ _ _ _ c.if-k-eq0.false c.in-ok-push-digits.ensures refl (c.in-ok-push.ensures.ascii small) c.in-ok-push.ensures.bytes
+    pushed c.args.k c.args.n (48 + c.args.n % 10) _ _ _ _ c.if-k-eq0.false c.in_ok-push_digits.ensures refl (c.in_ok-push.ensures.ascii small) c.in_ok-push.ensures.bytes

@@ -3,4 +3,4 @@ use Rattle.bench.specs.Lines.{digits}
 use Rattle.bench.proofs.orienting.oriented.Goals as goal
 
 pub returns : goal.returns
-returns c = c.in-ok-push-digits.ensures ∙ ap (λ w. w ++ digits 5 c.args.rules) c.in-ok-line.ensures.ok
+returns c = c.in_ok-push_digits.ensures ∙ ap (λ w. w ++ digits 5 c.args.rules) c.in_ok-line.ensures.ok

@@ -12,7 +12,7 @@ returns-in-Ok c =
     let bs = c.args.book.now.tables.bytes.now in
     made_map
     (λ s p. inl (c.in-Ok.ensures.answer, subst (λ b. OrientLine bs (signature_of b.tables.bytes.now) (path_grade (signature_of b.tables.bytes.now) (rank_of b.tables.bytes.now)) 2 (string_bytes s)) c.in-Ok.ensures.place p))
-    c.orient-line.result c.orient-line.ensures
+    c.orient_line.result c.orient_line.ensures
 
 pub returns-in-Err : goal.returns-in-Err
 returns-in-Err c =
