@@ -1,5 +1,5 @@
 -- The line that is to be printed of the bytes of a book, judged by its order.
-use Rattle.std.specs.Prelude.{◌≡◌, ℕ, zero, suc, ◌+◌, ◌/◌, ◌%◌, ◌⊎◌, List, [], ◌∷◌, ◌++◌, length, Some, None, codes, Option, ◌≢◌}
+use Rattle.std.specs.Prelude.{◌≡◌, ℕ, ◌⊎◌, List, [], ◌++◌, length, codes, Option, ◌≢◌}
 use Rattle.std.specs.Option.{unwrap_or}
 use Rattle.terms.specs.Prefix.{Arities}
 use Rattle.book.specs.Meaning.{signature_of, fields_of, rules_of}

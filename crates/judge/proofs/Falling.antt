@@ -1,14 +1,14 @@
 -- Rules that fall under an order terminate.
-use Rattle.std.proofs.Common.{◌≡◌, ℕ, ◌<◌, List, [], length, Some, sym, refl, ◌∙◌, arith}
+use Rattle.std.proofs.Common.{ℕ, ◌<◌, List, [], length, refl, ◌∙◌, arith}
 use mathlib.Core.WellFounded.{Acc}
-use Rattle.terms.specs.Term.{Kind, Tree, var, node, nil, cons, Term, Rule, rule_at, how_many}
+use Rattle.terms.specs.Term.{Kind, Tree, var, node, nil, cons, Term, Rule, rule_at}
 use Rattle.terms.specs.Prefix.{Arities, prefix, WellSorted, Reads}
 use Rattle.rewriting.specs.Relation.{Terminating}
 use Rattle.rewriting.specs.Rewrite.{StepOf, Proper, RulesOf}
 use Rattle.rewriting.proofs.Termination.{oriented_rules_terminate}
 use Rattle.order_theory.specs.Laws.{OrderLaws}
 use Rattle.order_theory.proofs.Fences.{fence_keeps_the_laws, zero_is_proper}
-use Rattle.judge.specs.Orient.{SameSignature, rule_grade, Falls}
+use Rattle.judge.specs.Orient.{SameSignature, Falls}
 
 -- signatures that are the same on bytes have the same terms
 sorted_in : {k : Kind} (sig other : Arities) (n : ℕ) → SameSignature sig other → (t : Tree k) → WellSorted other n t → WellSorted sig n t

@@ -1,24 +1,21 @@
 -- What is found out about a triple of a book.
-use Rattle.std.proofs.Common.{◌≡◌, ℕ, ◌+◌, ◌*◌, ◌<◌, ◌≤◌, ◌⊎◌, List, ◌∷◌, length, get_or, drop, sym, refl, ap, ◌∙◌, subst, ap₂, subst₂, inl, inr, arith}
+use Rattle.std.proofs.Common.{◌≡◌, ℕ, ◌+◌, ◌<◌, ◌⊎◌, List, ◌∷◌, length, get_or, drop, sym, ap, ◌∙◌, ap₂, subst₂, inl, inr, arith}
 use Rattle.std.proofs.lemmas.List.{drop_more}
 use Rattle.terms.specs.Term.{var, node, Term, Rule, rule_at, IsNode, size}
-use Rattle.terms.specs.Prefix.{Arities, WellSorted, Reads, Begins, prefix, term_of}
+use Rattle.terms.specs.Prefix.{Arities, Begins}
 use Rattle.terms.specs.Place.{part}
 use Rattle.terms.proofs.Reading.{prefix_length, bytes_read_as_their_term}
 use Rattle.terms.proofs.Parts.{part_begins}
-use Rattle.rewriting.specs.Unify.{Overlap, CriticalPair, distinct}
-use Rattle.rewriting.specs.Rewrite.{Proper}
 use Rattle.unification.specs.declared.critical.Critical.{Critical}
 use Rattle.unification.specs.declared.critical.Critical.TheVariants.{Malformed, Apart, TooLong, Pair}
 use Rattle.unification.specs.Asked.{Asked, rule_of}
-use Rattle.unification.specs.Critical.{OfRules, Answer, IsCriticalPair}
-use Rattle.unification.specs.Written.{bytes_of}
+use Rattle.unification.specs.Critical.{OfRules, Answer}
 use Rattle.unification.proofs.OfList.{of_list, in_list}
 use Rattle.book.specs.Meaning.{signature_of, rules_of}
 use Rattle.book.specs.Queries.{SidesOf}
 use Rattle.judge.specs.declared.triple.Triple.{Triple}
-use Rattle.judge.specs.Overlaps.{IsOverlap, Fits, OverlapFits}
-use Rattle.judge.specs.Pairs.{PairWritten, PairAnswer}
+use Rattle.judge.specs.Overlaps.{IsOverlap, Fits}
+use Rattle.judge.specs.Pairs.{PairAnswer}
 
 module _ (bs : List ℕ) (t : Triple) (root : t.p ≡ 0 → t.i < t.j) (l r l' r' : List ℕ) (first : SidesOf bs t.i l r) (second : SidesOf bs t.j l' r') where
   abbrev sig : Arities

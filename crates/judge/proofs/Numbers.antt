@@ -1,10 +1,10 @@
 -- Triples by their numbers.
-use Rattle.std.proofs.Common.{◌≡◌, ℕ, ◌+◌, ◌*◌, ◌<◌, ◌≤◌, ◌⊎◌, ◌↔◌, List, length, Some, None, Option, sym, refl, ap, ◌∙◌, subst, inl, inr, arith}
+use Rattle.std.proofs.Common.{◌≡◌, ℕ, ◌+◌, ◌<◌, ◌≤◌, ◌⊎◌, ◌↔◌, List, length, Some, None, Option, sym, subst, inl, inr, arith}
 use mathlib.Core.HLevel.{×_prop, Unit-prop}
 use mathlib.Core.Logic.{∥∥₁_elim}
 use native.Mathlib.Bridge.{le_prop}
 use Rattle.std.proofs.lemmas.Bool.{cases_lt}
-use Rattle.terms.specs.Term.{Rule, rule_at, size}
+use Rattle.terms.specs.Term.{Rule}
 use Rattle.rewriting.specs.Unify.{Overlap, Before}
 use Rattle.book.specs.Meaning.{rules_of}
 use Rattle.book.specs.Tables.{Holds}

@@ -1,5 +1,5 @@
 -- What a judge's calls do: when each is accepted, what it says otherwise, and what becomes of the judge. `rs` are the rules of its book.
-use Rattle.std.specs.Prelude.{◌≡◌, ℕ, ◌+◌, ◌*◌, ◌<◌, ◌≤◌, Bool, true, false, cond, ◌⊎◌, List, length, take, Some, None, Option, slice_index}
+use Rattle.std.specs.Prelude.{◌≡◌, ℕ, ◌+◌, ◌*◌, ◌<◌, ◌≤◌, true, false, cond, ◌⊎◌, List, length, take, Some, None, Option, slice_index}
 use Rattle.terms.specs.Term.{Term, Rule, size}
 use Rattle.terms.specs.Place.{part}
 use Rattle.rewriting.specs.Rewrite.{Matches, StepAt}

@@ -1,5 +1,5 @@
 -- What a judge keeps of its overlaps.
-use Rattle.std.specs.Prelude.{◌≡◌, true, List, Some, None, Option}
+use Rattle.std.specs.Prelude.{◌≡◌, true, List, Some, None}
 use Rattle.terms.specs.Term.{Rule}
 use Rattle.judge.specs.declared.triple.Triple.{Triple}
 use Rattle.judge.specs.declared.progress.Progress.{Progress}

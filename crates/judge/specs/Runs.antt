@@ -1,5 +1,5 @@
 -- Runs of judge calls, and the laws over them.
-use Rattle.std.specs.Prelude.{◌≡◌, ℕ, ◌<◌, ◌≤◌, ◌⊎◌, ◌↔◌, List, [], ◌∷◌, length}
+use Rattle.std.specs.Prelude.{◌≡◌, ℕ, ◌<◌, ◌⊎◌, ◌↔◌, List, [], ◌∷◌, length}
 use Rattle.terms.specs.Term.{Term, Rule}
 use Rattle.terms.specs.Prefix.{Arities, WellSorted}
 use Rattle.rewriting.specs.Relation.{Conversion, NormalForm, OneNormalForm}

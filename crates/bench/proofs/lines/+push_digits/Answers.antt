@@ -1,4 +1,4 @@
-use Rattle.std.proofs.Common.{◌≡◌, ◌+◌, ◌%◌, ◌<◌, refl, mod-lt, arith}
+use Rattle.std.proofs.Common.{◌+◌, ◌%◌, ◌<◌, refl, mod-lt, arith}
 use Rattle.bench.proofs.DigitSteps.{pushed}
 use Rattle.bench.proofs.lines.+push_digits.Goals as goal
 

@@ -1,4 +1,4 @@
-use Rattle.std.proofs.Common.{◌≡◌, ◌⊎◌, string_bytes, subst, inl}
+use Rattle.std.proofs.Common.{string_bytes, subst, inl}
 use Rattle.bench.specs.Orienting.{BookLine}
 use Rattle.bench.proofs.Making.{made_map}
 use Rattle.bench.proofs.orienting.judged_line.Goals as goal

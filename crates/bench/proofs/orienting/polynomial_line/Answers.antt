@@ -1,4 +1,4 @@
-use Rattle.std.proofs.Common.{◌≡◌, ◌⊎◌, string_bytes, ◌∙◌, subst, ap₂, inl, inr}
+use Rattle.std.proofs.Common.{string_bytes, ◌∙◌, subst, ap₂, inl, inr}
 use Rattle.book.specs.Meaning.{signature_of}
 use Rattle.order_theory.specs.Grade.{polynomial_grade}
 use Rattle.orders.specs.Polynomials.{interpretation_of}

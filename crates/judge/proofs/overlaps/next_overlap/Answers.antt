@@ -1,4 +1,4 @@
-use Rattle.std.proofs.Common.{◌≡◌, ◌≤◌, sym, ap, arith}
+use Rattle.std.proofs.Common.{arith}
 use Rattle.orders.proofs.PathBytes.{no_of}
 use Rattle.book.specs.Meaning.{rules_of}
 use Rattle.judge.proofs.Numbers.{overlap_ranged, search_begins, search_goes_on, search_finds, search_ends}

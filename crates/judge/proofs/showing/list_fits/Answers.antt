@@ -1,4 +1,4 @@
-use Rattle.std.proofs.Common.{◌≡◌, ◌*◌, ◌/◌, length, arith, le-leb, leb-true}
+use Rattle.std.proofs.Common.{◌/◌, length, arith, le-leb, leb-true}
 use native.Mathlib.Nat.{div-add-mod}
 use Rattle.judge.proofs.showing.list_fits.Goals as goal
 

@@ -1,5 +1,5 @@
 -- The steps so far lead to the term that stands at the front.
-use Rattle.std.proofs.Common.{◌*◌, ◌≤◌, take}
+use Rattle.std.proofs.Common.{◌*◌, take}
 use Rattle.terms.specs.Term.{Term}
 use Rattle.terms.specs.Prefix.{Reads}
 use Rattle.book.specs.Meaning.{signature_of, rules_of}

@@ -1,4 +1,4 @@
-use Rattle.std.proofs.Common.{◌≡◌, ◌≤◌, length, take, drop, sym, refl, ap, ◌∙◌, arith, length-append}
+use Rattle.std.proofs.Common.{◌≤◌, take, drop, sym, ◌∙◌, arith, length-append}
 use Rattle.std.proofs.lemmas.List.{length-take-le}
 use Rattle.book.specs.Meaning.{signature_of, rules_of}
 use Rattle.judge.proofs.ToldSteps.{step_is_done, step_is_not_done}

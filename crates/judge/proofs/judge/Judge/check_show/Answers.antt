@@ -1,7 +1,7 @@
-use Rattle.std.proofs.Common.{◌≡◌, ℕ, ◌≤◌, true, List, length, Ok, Err, Result, sym, refl, ap, ◌∙◌, subst, arith, MatchResult}
+use Rattle.std.proofs.Common.{ℕ, ◌≤◌, List, length, Ok, Err, Result, sym, refl, ap, ◌∙◌, subst, arith, MatchResult}
 use mathlib.Core.Logic.{∥∥₁_elim, ∥∥₁_map}
 use Rattle.terms.specs.Term.{Term, Rule}
-use Rattle.terms.specs.Prefix.{Arities, WellSorted, Reads, prefix}
+use Rattle.terms.specs.Prefix.{Reads}
 use Rattle.terms.proofs.Reading.{prefix_length}
 use Rattle.terms.proofs.Sorts.{well_sorted_prop}
 use Rattle.book.specs.Meaning.{signature_of, rules_of}

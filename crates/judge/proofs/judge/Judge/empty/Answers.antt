@@ -1,8 +1,7 @@
-use Rattle.std.proofs.Common.{◌<◌, [], sym, subst, arith}
+use Rattle.std.proofs.Common.{[], sym, subst, arith}
 use Rattle.rewriting.specs.Relation.{Terminating}
 use Rattle.rewriting.specs.Rewrite.{StepOf, Proper}
 use Rattle.book.specs.Meaning.{signature_of, rules_of}
-use Rattle.judge.specs.Calls.{start}
 use Rattle.judge.specs.Kept.{Kept}
 use Rattle.judge.specs.Pairs.{LastRanged}
 use Rattle.judge.proofs.Falling.{nothing_terminates}

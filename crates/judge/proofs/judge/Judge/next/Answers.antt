@@ -1,9 +1,8 @@
-use Rattle.std.proofs.Common.{◌≡◌, true, false, Some, sym, refl, subst}
+use Rattle.std.proofs.Common.{true, false, Some, sym, refl, subst}
 use mathlib.Core.Logic.{∥∥₁_map}
 use Rattle.orders.proofs.PathBytes.{no_of}
 use Rattle.book.specs.Meaning.{rules_of}
 use Rattle.judge.specs.Calls.{Opens}
-use Rattle.judge.specs.Kept.{Kept}
 use Rattle.judge.proofs.Keeping.{kept_opens}
 use Rattle.judge.proofs.Numbers.{ranged_held, overlap_ranged}
 use Rattle.judge.proofs.judge.Judge.next.Goals as goal

@@ -1,9 +1,7 @@
-use Rattle.std.proofs.Common.{◌≡◌, ℕ, ◌<◌, length}
 use mathlib.Core.Logic.{∥∥₁_elim, ∥∥₁_prop, ∥∥₁_map}
 use Rattle.rewriting.specs.Rewrite.{RulesOf}
 use Rattle.book.specs.Meaning.{signature_of, rules_of}
 use Rattle.book.proofs.RuleSides.{held_left, held_right}
-use Rattle.judge.specs.Sealed.{Convergent}
 use Rattle.judge.proofs.Numbers.{ranged_held}
 use Rattle.judge.proofs.Soundness.{sealed_convergent}
 use Rattle.judge.proofs.judge.Judge.seal.Goals as goal

@@ -1,8 +1,6 @@
-use Rattle.std.proofs.Common.{◌≡◌, sym, refl, subst}
+use Rattle.std.proofs.Common.{sym, subst}
 use mathlib.Core.Logic.{∥∥₁_map}
 use Rattle.book.specs.Meaning.{rules_of}
-use Rattle.judge.specs.Calls.{settled}
-use Rattle.judge.specs.Kept.{Kept}
 use Rattle.judge.specs.Pairs.{LastRanged}
 use Rattle.judge.proofs.Keeping.{kept_settles}
 use Rattle.judge.proofs.judge.Judge.settle.Goals as goal

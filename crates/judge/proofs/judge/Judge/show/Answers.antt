@@ -1,4 +1,4 @@
-use Rattle.std.proofs.Common.{◌≡◌, sym, subst}
+use Rattle.std.proofs.Common.{sym, subst}
 use mathlib.Core.Logic.{∥∥₁_map}
 use Rattle.book.specs.Meaning.{rules_of}
 use Rattle.judge.specs.Calls.{joined}

@@ -1,4 +1,4 @@
-use Rattle.std.proofs.Common.{◌≡◌, ◌++◌, length, drop, ap, ◌∙◌, subst}
+use Rattle.std.proofs.Common.{◌++◌, length, drop, ap, ◌∙◌, subst}
 use mathlib.Core.Logic.{∥∥₁_map}
 use Rattle.terms.proofs.Reading.{prefix_length}
 use Rattle.book.specs.Meaning.{rules_of}

@@ -1,4 +1,4 @@
-use Rattle.std.proofs.Common.{◌≡◌, ◌<◌, [], sym, subst, arith}
+use Rattle.std.proofs.Common.{[], sym, subst, arith}
 use Rattle.rewriting.specs.Unify.{OverlapsJoin}
 use Rattle.rewriting.proofs.Statements.{joined_overlaps_suffice}
 use Rattle.book.specs.Meaning.{signature_of, rules_of}
