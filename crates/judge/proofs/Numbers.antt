@@ -12,17 +12,17 @@ use Rattle.book.proofs.Held.{held_count, held_few}
 use Rattle.book.proofs.RuleSides.{held_left_size}
 use Rattle.judge.specs.declared.triple.Triple.{Triple}
 use Rattle.judge.specs.Overlaps.{named, IsOverlap, Behind, NextOverlap, NoneLeft}
-use Rattle.judge.specs.Pairs.{number_of, Ranged, LastRanged}
+use Rattle.judge.specs.Pairs.{triple_number, Ranged, LastRanged}
 
-pub before_number : (a b : Triple) → Ranged a → Ranged b → Before (named a) (named b) → number_of a < number_of b
+pub before_number : (a b : Triple) → Ranged a → Ranged b → Before (named a) (named b) → triple_number a < triple_number b
 before_number a b r s (inl h) = omega (arith, r.0, r.1, s.0, s.1, h)
 before_number a b r s (inr h) = by h.1
   where
-    by : (a.p < b.p) ⊎ ((a.p ≡ b.p) × (a.j < b.j)) → number_of a < number_of b
+    by : (a.p < b.p) ⊎ ((a.p ≡ b.p) × (a.j < b.j)) → triple_number a < triple_number b
     by (inl l) = omega (arith, r.0, r.1, s.0, s.1, h.0, l)
     by (inr l) = omega (arith, r.0, r.1, s.0, s.1, h.0, l.0, l.1)
 
-pub number_before : (a b : Triple) → Ranged a → Ranged b → number_of a < number_of b → Before (named a) (named b)
+pub number_before : (a b : Triple) → Ranged a → Ranged b → triple_number a < triple_number b → Before (named a) (named b)
 number_before a b r s h = first (cases_lt a.i b.i)
   where
     third : b.i ≤ a.i → b.p ≤ a.p → Before (named a) (named b)
@@ -37,7 +37,7 @@ number_before a b r s h = first (cases_lt a.i b.i)
     first (inr l) = second l (cases_lt a.p b.p)
 
 -- a triple with the number of an overlap is that overlap
-pub same_overlap : (rs : List Rule) (a b : Triple) → Ranged a → Ranged b → number_of a ≡ number_of b → IsOverlap rs a → IsOverlap rs b
+pub same_overlap : (rs : List Rule) (a b : Triple) → Ranged a → Ranged b → triple_number a ≡ triple_number b → IsOverlap rs a → IsOverlap rs b
 same_overlap rs a b r s e o =
     let i : a.i ≡ b.i = omega (arith, r.0, r.1, s.0, s.1, e) in
     let p : a.p ≡ b.p = omega (arith, r.0, r.1, s.0, s.1, e) in
@@ -53,10 +53,10 @@ ranged_held last held = ∥∥₁_elim held (last_ranged_prop last) (λ r. r)
 
 -- ── the first triple behind one ──
 
-pub behind_none : (r : Triple) → r ≡ record { i = 0; p = 0; j = 0 } → (u : Triple) → Behind None u ↔ (number_of r ≤ number_of u)
-behind_none r e u = ((λ h. subst (λ r. number_of r ≤ number_of u) (sym e) (omega arith)), λ h. tt)
+pub behind_none : (r : Triple) → r ≡ record { i = 0; p = 0; j = 0 } → (u : Triple) → Behind None u ↔ (triple_number r ≤ triple_number u)
+behind_none r e u = ((λ h. subst (λ r. triple_number r ≤ triple_number u) (sym e) (omega arith)), λ h. tt)
 
-pub behind_some : (t r : Triple) → Ranged t → number_of r ≡ number_of t + 1 → (u : Triple) → Ranged u → Behind (Some t) u ↔ (number_of r ≤ number_of u)
+pub behind_some : (t r : Triple) → Ranged t → triple_number r ≡ triple_number t + 1 → (u : Triple) → Ranged u → Behind (Some t) u ↔ (triple_number r ≤ triple_number u)
 behind_some t r a e u s = ((λ h. let l = before_number t u a s h in omega (arith, l, e)), λ h. number_before t u a s (omega (arith, h, e)))
 
 -- ── the search ──
@@ -71,25 +71,25 @@ module _ (bs arities : List ℕ) (symbols : ℕ) (rules : List ℕ) (count : ℕ
 -- all overlaps behind the last one are at t or behind it, and all triples from t on are behind the last one
 pub record Searched (rs : List Rule) (last : Option Triple) (t : Triple) : Type 0 where
   pub ranged : Ranged t
-  pub not_before : (u : Triple) → IsOverlap rs u → Behind last u → number_of t ≤ number_of u
-  pub from_here : (u : Triple) → Ranged u → number_of t ≤ number_of u → Behind last u
+  pub not_before : (u : Triple) → IsOverlap rs u → Behind last u → triple_number t ≤ triple_number u
+  pub from_here : (u : Triple) → Ranged u → triple_number t ≤ triple_number u → Behind last u
 
 module _ (rs : List Rule) (in_range : (u : Triple) → IsOverlap rs u → (u.i < 32) × Ranged u) (last : Option Triple) where
-  pub search_begins : (r : Triple) → Ranged r → ((u : Triple) → Ranged u → Behind last u ↔ (number_of r ≤ number_of u)) → Searched rs last r
+  pub search_begins : (r : Triple) → Ranged r → ((u : Triple) → Ranged u → Behind last u ↔ (triple_number r ≤ triple_number u)) → Searched rs last r
   search_begins r a first = record {
     ranged = a;
     not_before = λ u o h. (first u (in_range u o).1).0 h;
     from_here = λ u s h. (first u s).1 h;
   }
 
-  pub search_goes_on : (t r : Triple) → Searched rs last t → (IsOverlap rs t → ⊥) → Ranged r → number_of r ≡ number_of t + 1 → Searched rs last r
+  pub search_goes_on : (t r : Triple) → Searched rs last t → (IsOverlap rs t → ⊥) → Ranged r → triple_number r ≡ triple_number t + 1 → Searched rs last r
   search_goes_on t r s n a e = record {
     ranged = a;
-    not_before = λ u o h. by u o (s.not_before u o h) (cases_lt (number_of t) (number_of u));
+    not_before = λ u o h. by u o (s.not_before u o h) (cases_lt (triple_number t) (triple_number u));
     from_here = λ u g h. s.from_here u g (omega (arith, h, e));
   }
     where
-      by : (u : Triple) → IsOverlap rs u → number_of t ≤ number_of u → (number_of t < number_of u) ⊎ (number_of u ≤ number_of t) → number_of r ≤ number_of u
+      by : (u : Triple) → IsOverlap rs u → triple_number t ≤ triple_number u → (triple_number t < triple_number u) ⊎ (triple_number u ≤ triple_number t) → triple_number r ≤ triple_number u
       by u o l (inl h) = omega (arith, h, e)
       by u o l (inr h) = absurd (n (same_overlap rs u t (in_range u o).1 s.ranged (omega (arith, l, h)) o))
 

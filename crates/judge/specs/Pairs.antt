@@ -32,8 +32,8 @@ PairAnswer sig rs t TooLong = IsOverlap rs t × (OverlapFits rs t → ⊥)
 PairAnswer sig rs t (Pair pair) = IsOverlap rs t × PairWritten sig rs t pair
 
 -- the triples in ascending sequence, numbered, where p and j are below 32
-abbrev pub number_of : Triple → ℕ
-number_of t = 1024 * t.i + (32 * t.p + t.j)
+abbrev pub triple_number : Triple → ℕ
+triple_number t = 1024 * t.i + (32 * t.p + t.j)
 
 abbrev pub Ranged : Triple → Type 0
 Ranged t = (t.p < 32) × (t.j < 32)

@@ -3,7 +3,7 @@ ghost use Rattle.std.specs.Prelude.{◌≡◌, ◌+◌, ◌<◌, ◌≤◌, ◌�
 ghost use Rattle.book.specs.Meaning.{signature_of, rules_of};
 ghost use Rattle.judge.specs.declared.triple.Triple.{Triple};
 ghost use Rattle.judge.specs.Overlaps.{IsOverlap, Behind, NextOverlap, NoneLeft};
-ghost use Rattle.judge.specs.Pairs.{PairAnswer, number_of, Ranged, LastRanged};
+ghost use Rattle.judge.specs.Pairs.{PairAnswer, triple_number, Ranged, LastRanged};
 
 use crate::triple::Triple;
 use book::book::Book;
@@ -53,7 +53,7 @@ fn following(t: &Triple) -> Triple
     requires ranged { Ranged t.now }
     requires small { t.now.i < 32 }
     ensures ranged { Ranged result }
-    ensures number { number_of result ≡ number_of t.now + 1 }
+    ensures number { triple_number result ≡ triple_number t.now + 1 }
 {
     if t.j + 1 < MOST {
         return Triple {
@@ -80,7 +80,7 @@ fn following(t: &Triple) -> Triple
 fn first_behind(last: &Option<Triple>) -> Triple
     requires { LastRanged last.now }
     ensures ranged { Ranged result }
-    ensures first { (u : Triple) → Ranged u → (Behind last.now u ↔ (number_of result ≤ number_of u)) }
+    ensures first { (u : Triple) → Ranged u → (Behind last.now u ↔ (triple_number result ≤ triple_number u)) }
 {
     match last {
         None => Triple { i: 0, p: 0, j: 0 },

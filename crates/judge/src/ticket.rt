@@ -3,17 +3,10 @@ ghost use Rattle.std.specs.Prelude.{◌≡◌};
 
 use crate::triple::Triple;
 
-// The overlap that is out. A ticket cannot be copied, and nobody may let it go: it ends when it is settled.
+// The overlap that is out. A ticket cannot be copied, and has no Drop, so nobody may let it go: it ends when it is settled.
+#[must_use]
 pub struct Ticket {
     triple: Triple,
-}
-
-impl Drop for Ticket {
-    fn drop(self)
-        requires { ⊥ }
-    {
-        let Ticket { triple: _ } = self;
-    }
 }
 
 impl Ticket {
