@@ -8,8 +8,8 @@ pub mod client;
 mod contents;
 mod doubling;
 #[cfg(test)]
-mod judging;
+mod grading;
 #[cfg(test)]
-mod orders;
+mod judging;
 #[cfg(test)]
 mod overlaps;
