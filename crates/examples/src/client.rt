@@ -11,7 +11,7 @@ fn settled(judge: &mut Judge, ticket: Ticket) -> u8 {
 }
 
 // Opens the next overlap and settles it unshown. Gives the number of a refusal, and 0 if there is none.
-pub fn settle_next(judge: &mut Judge) -> u8 {
+pub(crate) fn settle_next(judge: &mut Judge) -> u8 {
     match judge.next() {
         Ok(ticket) => settled(judge, ticket),
         Err(fault) => fault.number(),
@@ -19,7 +19,7 @@ pub fn settle_next(judge: &mut Judge) -> u8 {
 }
 
 // Opens the next overlap, shows that its sides join by these steps, and settles it. Gives the number of a refusal, and 0 if there is none.
-pub fn join_next(judge: &mut Judge, outer: &[u8], inner: &[u8], page: &mut [u8]) -> u8 {
+pub(crate) fn join_next(judge: &mut Judge, outer: &[u8], inner: &[u8], page: &mut [u8]) -> u8 {
     match judge.next() {
         Ok(ticket) => {
             let number = match judge.show(&ticket, outer, inner, page) {

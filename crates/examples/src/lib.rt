@@ -3,7 +3,7 @@
 
 #[cfg(test)]
 mod books;
-pub mod client;
+mod client;
 #[cfg(test)]
 mod contents;
 mod doubling;
