@@ -1,2 +1,1 @@
-pub mod DigitSteps
-pub mod Making
+pub mod Widths

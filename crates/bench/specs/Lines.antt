@@ -3,6 +3,8 @@ use Rattle.std.specs.Prelude.{◌≡◌, ℕ, zero, suc, ◌+◌, ◌/◌, ◌%�
 use Rattle.std.specs.Option.{unwrap_or}
 use Rattle.book.specs.Meaning.{fields_of, rules_of}
 use Rattle.book.specs.Questions.{Accepted, Refused}
+use Rattle.bench.specs.declared.verdict.Verdict.{Verdict}
+use Rattle.bench.specs.declared.verdict.Verdict.TheVariants.{Read, Oriented, Refused as RefusedVerdict}
 
 -- the last k decimal digits of n, as text
 abbrev pub digits : ℕ → ℕ → List ℕ
@@ -16,6 +18,16 @@ refused_line number offset = codes "refused " ++ (digits 2 number ++ (codes " " 
 -- `read`, the number of symbols and the number of rules, in 5 digits each
 abbrev pub read_line : ℕ → ℕ → List ℕ
 read_line symbols rules = codes "read " ++ (digits 5 symbols ++ (codes " " ++ digits 5 rules))
+
+-- `oriented`, and the number of rules in 5 digits
+abbrev pub oriented_line : ℕ → List ℕ
+oriented_line rules = codes "oriented " ++ digits 5 rules
+
+-- the line that says a verdict
+abbrev pub line_of : Verdict → List ℕ
+line_of (Read symbols rules) = read_line symbols rules
+line_of (Oriented rules) = oriented_line rules
+line_of (RefusedVerdict number place) = refused_line number place
 
 -- the line for a book's bytes: they are a book; or they are refused, and the offset is 0 where the refusal carries none
 abbrev pub VerdictLine : List ℕ → List ℕ → Type 0

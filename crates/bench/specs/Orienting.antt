@@ -1,5 +1,5 @@
 -- The line that is to be printed of the bytes of a book, judged by its order.
-use Rattle.std.specs.Prelude.{◌≡◌, ℕ, ◌⊎◌, List, [], ◌++◌, length, codes, Option, ◌≢◌}
+use Rattle.std.specs.Prelude.{◌≡◌, ℕ, ◌⊎◌, List, [], length, Option, ◌≢◌}
 use Rattle.std.specs.Option.{unwrap_or}
 use Rattle.terms.specs.Prefix.{Arities}
 use Rattle.book.specs.Meaning.{signature_of, fields_of, rules_of}
@@ -14,11 +14,7 @@ use Rattle.orders.specs.PolynomialFaults.{PolynomialsRefused}
 use Rattle.judge.specs.declared.orient_fault.OrientFault.{OrientFault}
 use Rattle.judge.specs.declared.orient_fault.OrientFault.TheVariants.{OtherSignature, NotOver}
 use Rattle.judge.specs.Orient.{Falls, number_of, OrientRefused}
-use Rattle.bench.specs.Lines.{digits, refused_line}
-
--- `oriented`, and the number of rules in 5 digits
-abbrev pub oriented_line : ℕ → List ℕ
-oriented_line rules = codes "oriented " ++ digits 5 rules
+use Rattle.bench.specs.Lines.{oriented_line, refused_line}
 
 -- ── which line ──
 
@@ -33,17 +29,20 @@ OrientLine bs order grade kind line =
     (Falls order grade (signature_of bs) (rules_of bs) × (line ≡ oriented_line (length (rules_of bs))))
     ⊎ ((e : OrientFault) × OrientRefused order grade kind (signature_of bs) (rules_of bs) e × (line ≡ refused_line (number_of e) (rule_in e)))
 
+-- the line for a book whose fields are to give an order: they are accepted, and the order has a grade by the book and a kind; or they are refused
+abbrev pub FiguredLine : (List ℕ → Type 0) → (List ℕ → ℕ → ℕ → Type 0) → (List ℕ → List ℕ → List ℕ → ℕ) → ℕ → List ℕ → List ℕ → Type 0
+FiguredLine accepted refused grade kind bs line =
+    (accepted bs × OrientLine bs (signature_of bs) (grade bs) kind line)
+    ⊎ ((n at : ℕ) × refused bs n at × (line ≡ refused_line n at))
+
 -- by the book's polynomials
 abbrev pub PolynomialLine : List ℕ → List ℕ → Type 0
-PolynomialLine bs line =
-    (Answered polynomial_questions bs 3 × OrientLine bs (signature_of bs) (polynomial_grade (signature_of bs) (interpretation_of bs)) 1 line)
-    ⊎ ((n at : ℕ) × PolynomialsRefused bs n at × (line ≡ refused_line n at))
+PolynomialLine =
+    FiguredLine (λ bs. Answered polynomial_questions bs 3) PolynomialsRefused (λ bs. polynomial_grade (signature_of bs) (interpretation_of bs)) 1
 
 -- by the book's ranks
 abbrev pub PathLine : List ℕ → List ℕ → Type 0
-PathLine bs line =
-    (Figured bs 4 × OrientLine bs (signature_of bs) (path_grade (signature_of bs) (rank_of bs)) 2 line)
-    ⊎ ((n at : ℕ) × RanksRefused bs n at × (line ≡ refused_line n at))
+PathLine = FiguredLine (λ bs. Figured bs 4) RanksRefused (λ bs. path_grade (signature_of bs) (rank_of bs)) 2
 
 -- the line for a book: its order is the polynomial order if it has a polynomial, else the path order
 abbrev pub BookLine : List ℕ → List ℕ → Type 0

@@ -1,49 +1,41 @@
 // The lines that the program prints.
-ghost use Rattle.std.specs.Prelude.{◌≡◌, ◌++◌, IfOk, string_bytes, OnOk};
-ghost use Rattle.bench.specs.Lines.{digits, refused_line, read_line, VerdictLine};
+ghost use Rattle.std.specs.Prelude.{◌≡◌, IfOk, string_bytes};
+ghost use Rattle.std.specs.Option.{unwrap_or};
+ghost use Rattle.book.specs.Faults.{number_of, offset_of};
+ghost use Rattle.bench.specs.Lines.{refused_line, line_of, VerdictLine};
 
+use crate::verdict::Verdict;
 use book::book::Book;
+use book::fault::Fault;
 use std::alloc::{AllocError, Global};
 
-// Writes the last k decimal digits of n behind the text.
-pub(crate) fn push_digits(text: &mut String, k: u8, n: usize) -> Result<(), AllocError>
-    ensures { OnOk result (string_bytes text.new ≡ string_bytes text.old ++ digits k n) }
+// What is said of bytes that are no book.
+pub(crate) fn refused(fault: &Fault) -> Verdict
+    ensures { line_of result ≡ refused_line (number_of fault.now) (unwrap_or (offset_of fault.now) 0) }
 {
-    if k == 0 {
-        return Ok(());
+    Verdict::Refused {
+        number: fault.number(),
+        place: fault.offset().unwrap_or(0),
     }
-    push_digits(text, k - 1, n / 10)?;
-    text.push((b'0' + (n % 10) as u8) as char)?;
-    Ok(())
 }
 
-pub(crate) fn refused(heap: Global, number: u8, offset: usize) -> Result<String, AllocError>
-    ensures { IfOk result (λ s. string_bytes s ≡ refused_line number offset) }
+// What is said of the bytes of a book.
+fn verdict(bytes: &[u8]) -> Verdict
+    ensures { VerdictLine bytes.now (line_of result) }
 {
-    let mut line = String::from_str(heap, "refused ")?;
-    push_digits(&mut line, 2, number as usize)?;
-    line.push_str(" ")?;
-    push_digits(&mut line, 5, offset)?;
-    Ok(line)
-}
-
-fn accepted(heap: Global, symbols: usize, rules: usize) -> Result<String, AllocError>
-    ensures { IfOk result (λ s. string_bytes s ≡ read_line symbols rules) }
-{
-    let mut line = String::from_str(heap, "read ")?;
-    push_digits(&mut line, 5, symbols)?;
-    line.push_str(" ")?;
-    push_digits(&mut line, 5, rules)?;
-    Ok(line)
+    let mut book = Book::empty();
+    match book.read(bytes) {
+        Ok(()) => Verdict::Read {
+            symbols: book.symbol_count(),
+            rules: book.rule_count(),
+        },
+        Err(fault) => refused(&fault),
+    }
 }
 
 // The line for the bytes of a book.
 pub fn verdict_line(heap: Global, bytes: &[u8]) -> Result<String, AllocError>
     ensures { IfOk result (λ s. VerdictLine bytes.now (string_bytes s)) }
 {
-    let mut book = Book::empty();
-    match book.read(bytes) {
-        Ok(()) => accepted(heap, book.symbol_count(), book.rule_count()),
-        Err(fault) => refused(heap, fault.number(), fault.offset().unwrap_or(0)),
-    }
+    verdict(bytes).to_string(heap)
 }

@@ -3,6 +3,7 @@
 
 mod lines;
 mod orienting;
+mod verdict;
 
 use lines::verdict_line;
 use std::fs;

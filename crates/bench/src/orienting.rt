@@ -1,24 +1,19 @@
 // The line of a book that is judged by its order. The program does not print it yet.
 ghost use Rattle.std.specs.Prelude.{◌≡◌, IfOk, string_bytes};
-ghost use Rattle.bench.specs.Orienting.{oriented_line, rule_in, OrientLine, PolynomialLine, PathLine, BookLine, JudgedLine};
+ghost use Rattle.bench.specs.Lines.{line_of};
+ghost use Rattle.bench.specs.Orienting.{rule_in, OrientLine, FiguredLine, BookLine, JudgedLine};
 
-use crate::lines::{push_digits, refused};
+use crate::lines::refused;
+use crate::verdict::Verdict;
 use book::book::Book;
 use book::shape::POLYNOMIAL;
 use judge::judge::Judge;
 use judge::orient_fault::OrientFault;
+use orders::book_order::{BookOrder, FigureFault};
 use orders::order::Order;
 use orders::path::Path;
 use orders::polynomial::Polynomial;
 use std::alloc::{AllocError, Global};
-
-fn oriented(heap: Global, rules: usize) -> Result<String, AllocError>
-    ensures { IfOk result (λ s. string_bytes s ≡ oriented_line rules) }
-{
-    let mut line = String::from_str(heap, "oriented ")?;
-    push_digits(&mut line, 5, rules)?;
-    Ok(line)
-}
 
 // The rule that a fault names, and 0 if it names none.
 fn rule_in(fault: &OrientFault) -> usize
@@ -26,51 +21,59 @@ fn rule_in(fault: &OrientFault) -> usize
 {
     match fault {
         OrientFault::OtherSignature => 0,
-        OrientFault::NotOver(rule, _, _) => *rule,
+        OrientFault::NotOver { rule, .. } => *rule,
     }
 }
 
-// The line for a book under an order.
-fn orient_line<O: Order>(heap: Global, book: &Book, order: &O) -> Result<String, AllocError>
-    ensures { IfOk result (λ s. OrientLine book.now.tables.bytes.now (O.Order.signature order.now) (O.Order.grade order.now) O.Order.kind (string_bytes s)) }
+// What is said of a book under an order.
+fn oriented<O: Order>(book: &Book, order: &O) -> Verdict
+    ensures { OrientLine book.now.tables.bytes.now (O.Order.signature order.now) (O.Order.grade order.now) O.Order.kind (line_of result) }
 {
     let mut judge = Judge::empty();
     match judge.orient(book, order) {
-        Ok(()) => oriented(heap, book.rule_count()),
-        Err(fault) => refused(heap, fault.number(), rule_in(&fault)),
+        Ok(()) => Verdict::Oriented {
+            rules: book.rule_count(),
+        },
+        Err(fault) => Verdict::Refused {
+            number: fault.number(),
+            place: rule_in(&fault),
+        },
     }
 }
 
-// The line for a book under its polynomials.
-fn polynomial_line(heap: Global, book: &Book) -> Result<String, AllocError>
-    ensures { IfOk result (λ s. PolynomialLine book.now.tables.bytes.now (string_bytes s)) }
+// What is said of a book under an order that its fields give.
+fn figured<'a, O: BookOrder<'a>>(book: &Book<'a>) -> Verdict
+    ensures { FiguredLine O.BookOrder.accepted O.BookOrder.refused O.BookOrder.grade_of O.Order.kind book.now.tables.bytes.now (line_of result) }
 {
-    let mut order = Polynomial::empty();
+    let mut order = O::empty();
     match order.make(book) {
-        Ok(()) => orient_line(heap, book, &order),
-        Err(fault) => refused(heap, fault.number(), fault.offset()),
+        Ok(()) => oriented(book, &order),
+        Err(fault) => Verdict::Refused {
+            number: fault.number(),
+            place: fault.offset(),
+        },
     }
 }
 
-// The line for a book under its ranks.
-fn path_line(heap: Global, book: &Book) -> Result<String, AllocError>
-    ensures { IfOk result (λ s. PathLine book.now.tables.bytes.now (string_bytes s)) }
-{
-    let mut order = Path::empty();
-    match order.make(book) {
-        Ok(()) => orient_line(heap, book, &order),
-        Err(fault) => refused(heap, fault.number(), fault.offset()),
-    }
-}
-
-// The line for a book: under its polynomials if it has one, else under its ranks.
-fn book_line(heap: Global, book: &Book) -> Result<String, AllocError>
-    ensures { IfOk result (λ s. BookLine book.now.tables.bytes.now (string_bytes s)) }
+// What is said of a book: under its polynomials if it has one, else under its ranks.
+fn judged_book(book: &Book) -> Verdict
+    ensures { BookLine book.now.tables.bytes.now (line_of result) }
 {
     let mut polynomials = book.fields(POLYNOMIAL);
     match polynomials.next() {
-        Some(_) => polynomial_line(heap, book),
-        None => path_line(heap, book),
+        Some(_) => figured::<Polynomial>(book),
+        None => figured::<Path>(book),
+    }
+}
+
+// What is said of any bytes.
+fn judged(bytes: &[u8]) -> Verdict
+    ensures { JudgedLine bytes.now (line_of result) }
+{
+    let mut book = Book::empty();
+    match book.read(bytes) {
+        Ok(()) => judged_book(&book),
+        Err(fault) => refused(&fault),
     }
 }
 
@@ -78,9 +81,5 @@ fn book_line(heap: Global, book: &Book) -> Result<String, AllocError>
 pub fn judged_line(heap: Global, bytes: &[u8]) -> Result<String, AllocError>
     ensures { IfOk result (λ s. JudgedLine bytes.now (string_bytes s)) }
 {
-    let mut book = Book::empty();
-    match book.read(bytes) {
-        Ok(()) => book_line(heap, &book),
-        Err(fault) => refused(heap, fault.number(), fault.offset().unwrap_or(0)),
-    }
+    judged(bytes).to_string(heap)
 }

@@ -1,13 +1,17 @@
 -- One field more: what it changes in the tables, and in the questions that were answered.
-use Rattle.std.proofs.Common.{◌≡◌, ℕ, ◌+◌, ◌<◌, ◌≤◌, Bool, true, false, cond, ◌&&◌, eqb, ltb, ◌≢◌, List, [], ◌∷◌, ◌++◌, map, length, get_or, set, is_some, Some, None, Option, sym, refl, ap, ◌∙◌, subst, ap₂, append_assoc, append-nil, arith, length-append, MatchOption}
+use Rattle.std.proofs.Common.{◌≡◌, ℕ, ◌+◌, ◌<◌, ◌≤◌, Bool, true, false, cond, ◌&&◌, eqb, List, [], ◌∷◌, ◌++◌, map, length, get_or, take, is_some, Some, None, Option, sym, refl, ap, ◌∙◌, subst, ap₂, append_assoc, append-nil, arith, length-append, MatchOption}
 use mathlib.Core.Path.{fun_ext}
-use Rattle.std.proofs.lemmas.List.{get_or-append-add, get_or-set_same, get_or-set_other, take_more_set, map-append}
-use Rattle.std.proofs.lemmas.Bool.{eqb-true, eq-eqb, ltb-true, ltb-false, lt-ltb, le-ltb}
+use Rattle.std.proofs.lemmas.List.{get_or-append-add, map-append}
+use Rattle.std.proofs.lemmas.Option.{none-some}
+use Rattle.std.proofs.lemmas.Bool.{true≢false, eqb-true, eqb-false, ne_eqb, eq-eqb, lt-ltb}
+use Rattle.std.specs.Option.{option_and_then}
 use Rattle.terms.specs.Question.{AllYes}
 use Rattle.book.specs.Format.{BookField, field_bytes, book_bytes, shape_of, FitsShape}
 use Rattle.book.specs.Meaning.{code, arity, declares, signature, Located, located, with_tag}
-use Rattle.book.specs.Questions.{Good, field_questions, book_limit, SymbolFits, SidesFit, LengthFits}
-use Rattle.book.specs.Tables.{arity_place, byte_at, arity_in, Tabled, Laid}
+use Rattle.book.specs.Questions.{Good, field_questions, SymbolFits, SidesFit, LengthFits}
+use Rattle.book.specs.declared.tables.Tables.{Tables}
+use Rattle.book.specs.Places.{place_of, Entered}
+use Rattle.book.specs.Tables.{arity_place, byte_at, kept_signature, TablesOf, Laid}
 
 abbrev at_place : ℕ → BookField → Located
 at_place o f = record { offset = o; field = f }
@@ -44,24 +48,34 @@ rules_push_other fs f e = ap (with_tag 2) (located_push_0 fs f) ∙ tag_other 2 
 
 -- ── where a symbol's arity stands ──
 
-never_none : {n : ℕ} → ◌≡◌ {A = Option ℕ} (Some n) None → ⊥
-never_none e = let z : ◌≡◌ {A = ℕ} 0 1 = cc in omega arith
-
-never : true ≡ false → ⊥
-never e = let z : ◌≡◌ {A = ℕ} 0 1 = cc in omega arith
-
 module _ (c : ℕ) (l : Located) where
   arity_other : (ls : List Located) → declares c l.field ≡ false → arity_place (ls ++ l ∷ []) c ≡ arity_place ls c
-  arity_other [] e = ap (λ b. cond b (l.offset + 4) book_limit) e
-  arity_other (m ∷ ls) e = ap (cond (declares c m.field) (m.offset + 4)) (arity_other ls e)
+  arity_other [] e = ap (λ b. cond b (Some (l.offset + 4)) None) e
+  arity_other (m ∷ ls) e = ap (cond (declares c m.field) (Some (m.offset + 4))) (arity_other ls e)
 
-  arity_new : (at : ℕ) (fs : List BookField) → signature fs c ≡ None → declares c l.field ≡ true → arity_place (located at fs ++ l ∷ []) c ≡ l.offset + 4
-  arity_new at [] n e = ap (λ b. cond b (l.offset + 4) book_limit) e
-  arity_new at (f ∷ fs) n e = by (declares c f) _ n (λ h. arity_new (at + length (field_bytes f)) fs h e)
+  arity_new : (ls : List Located) → arity_place ls c ≡ None → declares c l.field ≡ true → arity_place (ls ++ l ∷ []) c ≡ Some (l.offset + 4)
+  arity_new [] n e = ap (λ b. cond b (Some (l.offset + 4)) None) e
+  arity_new (m ∷ ls) n e = by (declares c m.field) _ n (λ h. arity_new ls h e)
     where
-      by : (b : Bool) (next : ℕ) → cond b (Some (arity f)) (signature fs c) ≡ None → (signature fs c ≡ None → next ≡ l.offset + 4) → cond b (at + 4) next ≡ l.offset + 4
-      by true next h later = absurd (never_none h)
+      by : (b : Bool) (next : Option ℕ) → cond b (Some (m.offset + 4)) (arity_place ls c) ≡ None → (arity_place ls c ≡ None → next ≡ Some (l.offset + 4)) → cond b (Some (m.offset + 4)) next ≡ Some (l.offset + 4)
+      by true next h later = absurd (none-some _ (sym h))
       by false next h later = later h
+
+-- a code is declared where its arity has a place
+declared_where : (c at : ℕ) (fs : List BookField) → is_some (arity_place (located at fs) c) ≡ is_some (signature fs c)
+declared_where c at [] = refl
+declared_where c at (f ∷ fs) = by (declares c f) (at + 4) (arity f) _ _ (declared_where c (at + length (field_bytes f)) fs)
+  where
+    by : (b : Bool) (p a : ℕ) (o q : Option ℕ) → is_some o ≡ is_some q → is_some (cond b (Some p) o) ≡ is_some (cond b (Some a) q)
+    by true p a o q h = refl
+    by false p a o q h = h
+
+is_none_of : (o : Option ℕ) → is_some o ≡ false → o ≡ None
+is_none_of (Some a) x = absurd (true≢false x)
+is_none_of None x = refl
+
+no_place : (fs : List BookField) (c : ℕ) → signature fs c ≡ None → arity_place (located 0 fs) c ≡ None
+no_place fs c n = is_none_of _ (declared_where c 0 fs ∙ ap is_some n)
 
 -- a symbol's field has a code and an arity
 abbrev pub Shaped : BookField → Type 0
@@ -80,7 +94,7 @@ good_shaped before [] g = tt
 good_shaped before (f ∷ fs) g = ((λ e. ((g.0.1.1.0 e).most, two_bytes f g.0.1.0 e)), good_shaped (before ++ f ∷ []) fs g.1)
 
 -- of each code from 128 on nothing is declared
-high_none : (c : ℕ) (fs : List BookField) → AllShaped fs → 128 ≤ c → signature fs c ≡ None
+pub high_none : (c : ℕ) (fs : List BookField) → AllShaped fs → 128 ≤ c → signature fs c ≡ None
 high_none c [] s h = refl
 high_none c (f ∷ fs) s h = by (eqb f.tag 1) (eqb (code f) c) refl refl (high_none c fs s.1 h)
   where
@@ -89,7 +103,7 @@ high_none c (f ∷ fs) s h = by (eqb f.tag 1) (eqb (code f) c) refl refl (high_n
     by true false x y later = later
     by false b x y later = later
 
-module _ (bs : List ℕ) (c : ℕ) (short : length bs ≤ book_limit) where
+module _ (bs : List ℕ) (c : ℕ) where
   -- the arity of a symbol is the fifth byte of its field
   pub arity_byte : (front : List ℕ) (at : ℕ) (f : BookField) (more : List ℕ) → length front ≡ at → front ++ (field_bytes f ++ more) ≡ bs → length f.value ≡ 2 → byte_at bs (at + 4) ≡ Some (arity f)
   arity_byte front at f more l e two =
@@ -106,8 +120,8 @@ module _ (bs : List ℕ) (c : ℕ) (short : length bs ≤ book_limit) where
       second (x ∷ []) h = absurd (omega arith)
       second (x ∷ (y ∷ ys)) h = refl
 
-  arity_found : (front : List ℕ) (at : ℕ) (fs : List BookField) (rest : List ℕ) → length front ≡ at → front ++ (book_bytes fs ++ rest) ≡ bs → AllShaped fs → byte_at bs (arity_place (located at fs) c) ≡ signature fs c
-  arity_found front at [] rest l e s = ap (λ b. cond b (Some (get_or bs book_limit 0)) None) (le-ltb book_limit (length bs) short)
+  arity_found : (front : List ℕ) (at : ℕ) (fs : List BookField) (rest : List ℕ) → length front ≡ at → front ++ (book_bytes fs ++ rest) ≡ bs → AllShaped fs → option_and_then (byte_at bs) (arity_place (located at fs) c) ≡ signature fs c
+  arity_found front at [] rest l e s = refl
   arity_found front at (f ∷ fs) rest l e s =
       by (eqb f.tag 1) (eqb (code f) c) refl (arity_place (located (at + length (field_bytes f)) fs) c)
       (arity_found (front ++ field_bytes f) (at + length (field_bytes f)) fs rest
@@ -118,21 +132,16 @@ module _ (bs : List ℕ) (c : ℕ) (short : length bs ≤ book_limit) where
       form : front ++ (field_bytes f ++ (book_bytes fs ++ rest)) ≡ bs
       form = ap (λ w. front ++ w) (sym (append_assoc (field_bytes f) (book_bytes fs) rest)) ∙ e
 
-      by : (a b : Bool) → eqb f.tag 1 ≡ a → (next : ℕ) → byte_at bs next ≡ signature fs c → byte_at bs (cond (a && b) (at + 4) next) ≡ cond (a && b) (Some (arity f)) (signature fs c)
+      by : (a b : Bool) → eqb f.tag 1 ≡ a → (next : Option ℕ) → option_and_then (byte_at bs) next ≡ signature fs c → option_and_then (byte_at bs) (cond (a && b) (Some (at + 4)) next) ≡ cond (a && b) (Some (arity f)) (signature fs c)
       by true true x next later = arity_byte front at f (book_bytes fs ++ rest) l form (s.0 (eqb-true f.tag 1 x)).1
       by true false x next later = later
       by false b x next later = later
 
 -- the tables answer the signature of the fields
-pub arity_is : (bs arities : List ℕ) (symbols : ℕ) (rules : List ℕ) (count : ℕ) (before : List BookField) → Laid bs before → Tabled arities symbols rules count before → (c : ℕ) → arity_in bs arities c ≡ signature before c
-arity_is bs arities symbols rules count before laid tabled c = by (ltb c 128) refl
-  where
-    shaped : AllShaped before
-    shaped = good_shaped [] before laid.good
-
-    by : (b : Bool) → ltb c 128 ≡ b → cond b (byte_at bs (get_or arities c 0)) None ≡ signature before c
-    by true h = ap (byte_at bs) (tabled.arities_are c (ltb-true c 128 h)) ∙ arity_found bs c laid.short [] 0 before laid.rest refl laid.form shaped
-    by false h = sym (high_none c before shaped (ltb-false c 128 h))
+pub arity_is : (t : Tables) (before : List BookField) → Laid t.bytes.now before → TablesOf t before → (c : ℕ) → kept_signature t c ≡ signature before c
+arity_is t before laid tabled c =
+    ap (option_and_then (byte_at t.bytes.now)) (tabled.arities_are c)
+    ∙ arity_found t.bytes.now c [] 0 before laid.rest refl laid.form (good_shaped [] before laid.good)
 
 -- ── one field more ──
 
@@ -141,7 +150,7 @@ good_push before [] f g y = (subst (λ w. AllYes (field_questions w f)) (append-
 good_push before (h ∷ fs) f g y =
     (g.0, good_push (before ++ h ∷ []) fs f g.1 (subst (λ w. AllYes (field_questions w f)) (sym (append_assoc before (h ∷ []) fs)) y))
 
-module _ (arities : List ℕ) (symbols : ℕ) (rules : List ℕ) (count : ℕ) (before : List BookField) (t : Tabled arities symbols rules count before) (f : BookField) where
+module _ (t : Tables) (before : List BookField) (told : TablesOf t before) (f : BookField) where
   abbrev last : Located
   last = at_place (length (book_bytes before)) f
 
@@ -160,83 +169,74 @@ module _ (arities : List ℕ) (symbols : ℕ) (rules : List ℕ) (count : ℕ) (
       by false x = refl
 
   -- neither a symbol nor a rule changes nothing
-  pub other_push : (f.tag ≡ 1 → ⊥) → (f.tag ≡ 2 → ⊥) → Tabled arities symbols rules count (before ++ f ∷ [])
+  pub other_push : (f.tag ≡ 1 → ⊥) → (f.tag ≡ 2 → ⊥) → TablesOf t (before ++ f ∷ [])
   other_push n m =
       let pushed = located_push_0 before f in
       let none : (tag : ℕ) → eqb f.tag tag ≡ false → with_tag tag (located 0 (before ++ f ∷ [])) ≡ with_tag tag (located 0 before) = λ tag e. ap (with_tag tag) pushed ∙ tag_other tag last (located 0 before) e in
       record {
-        arities_are = λ c h. t.arities_are c h ∙ sym (ap (λ ls. arity_place ls c) pushed ∙ arity_other c last (located 0 before) (declares_not c n));
-        symbols_are = t.symbols_are ∙ ap length (sym (none 1 (not_eqb 1 n)));
-        rules_are = t.rules_are ∙ ap (map (λ l. l.offset)) (sym (none 2 (not_eqb 2 m)));
-        count_is = t.count_is ∙ ap length (sym (none 2 (not_eqb 2 m)));
+        arities_are = λ c. told.arities_are c ∙ sym (ap (λ ls. arity_place ls c) pushed ∙ arity_other c last (located 0 before) (declares_not c n));
+        symbols_are = told.symbols_are ∙ ap length (sym (none 1 (not_eqb 1 n)));
+        rules_are = told.rules_are ∙ ap (map (λ l. l.offset)) (sym (none 2 (not_eqb 2 m)));
+        count_is = told.count_is ∙ ap length (sym (none 2 (not_eqb 2 m)));
       }
 
   -- a new symbol
-  pub symbol_push : f.tag ≡ 1 → SymbolFits before f → length arities ≡ 128 → Tabled (set arities (code f) (length (book_bytes before) + 4)) (symbols + 1) rules count (before ++ f ∷ [])
-  symbol_push e fits long =
+  pub symbol_push : (new : Tables) → f.tag ≡ 1 → SymbolFits before f → Entered t.arities (code f) (length (book_bytes before) + 4) new.arities → new.symbols ≡ t.symbols + 1 → new.rules ≡ t.rules → TablesOf new (before ++ f ∷ [])
+  symbol_push new e fits entered more same =
       let pushed = located_push_0 before f in
       let is : eqb f.tag 1 ≡ true = eq-eqb f.tag 1 e in
       let no_rule = not_eqb 2 (λ two. omega arith) in
       record {
         arities_are = places;
-        symbols_are = omega (arith, t.symbols_are, ap length (ap (with_tag 1) pushed ∙ tag_same 1 last (located 0 before) is), length-append (with_tag 1 (located 0 before)) (last ∷ []));
-        rules_are = t.rules_are ∙ ap (map (λ l. l.offset)) (sym (ap (with_tag 2) pushed ∙ tag_other 2 last (located 0 before) no_rule));
-        count_is = t.count_is ∙ ap length (sym (ap (with_tag 2) pushed ∙ tag_other 2 last (located 0 before) no_rule));
+        symbols_are = omega (arith, more, told.symbols_are, ap length (ap (with_tag 1) pushed ∙ tag_same 1 last (located 0 before) is), length-append (with_tag 1 (located 0 before)) (last ∷ []));
+        rules_are = ap (λ r. take r.count r.entries) same ∙ told.rules_are ∙ ap (map (λ l. l.offset)) (sym (ap (with_tag 2) pushed ∙ tag_other 2 last (located 0 before) no_rule));
+        count_is = ap (λ r. r.count) same ∙ told.count_is ∙ ap length (sym (ap (with_tag 2) pushed ∙ tag_other 2 last (located 0 before) no_rule));
       }
     where
-      places : (c : ℕ) → c < 128 → get_or (set arities (code f) (length (book_bytes before) + 4)) c 0 ≡ arity_place (located 0 (before ++ f ∷ [])) c
-      places c h = by (eqb (code f) c) refl
+      places : (c : ℕ) → place_of new.arities c ≡ arity_place (located 0 (before ++ f ∷ [])) c
+      places c = entered c ∙ by (eqb c (code f)) refl
         where
-          by : (b : Bool) → eqb (code f) c ≡ b → get_or (set arities (code f) (length (book_bytes before) + 4)) c 0 ≡ arity_place (located 0 (before ++ f ∷ [])) c
+          by : (b : Bool) → eqb c (code f) ≡ b → cond b (Some (length (book_bytes before) + 4)) (place_of t.arities c) ≡ arity_place (located 0 (before ++ f ∷ [])) c
           by true x =
-              let same : code f ≡ c = eqb-true (code f) c x in
-              let inside : code f < length arities = omega (arith, fits.most) in
-              ap (λ k. get_or (set arities (code f) (length (book_bytes before) + 4)) k 0) (sym same)
-              ∙ get_or-set_same arities (code f) (length (book_bytes before) + 4) 0 inside
-              ∙ sym (ap (λ ls. arity_place ls c) (located_push_0 before f) ∙ arity_new c last 0 before (ap (signature before) (sym same) ∙ fits.new) (ap₂ ◌&&◌ (eq-eqb f.tag 1 e) x))
+              let same : c ≡ code f = eqb-true c (code f) x in
+              let none = no_place before c (ap (signature before) same ∙ fits.new) in
+              sym (ap (λ ls. arity_place ls c) (located_push_0 before f) ∙ arity_new c last (located 0 before) none (ap₂ ◌&&◌ (eq-eqb f.tag 1 e) (eq-eqb (code f) c (sym same))))
           by false x =
-              let other : c ≢ code f = λ q. never (sym (eq-eqb (code f) c (sym q)) ∙ x) in
-              get_or-set_other arities (code f) c (length (book_bytes before) + 4) 0 other
-              ∙ t.arities_are c h
-              ∙ sym (ap (λ ls. arity_place ls c) (located_push_0 before f) ∙ arity_other c last (located 0 before) (ap₂ ◌&&◌ (eq-eqb f.tag 1 e) x))
+              told.arities_are c
+              ∙ sym (ap (λ ls. arity_place ls c) (located_push_0 before f) ∙ arity_other c last (located 0 before) (ap₂ ◌&&◌ (eq-eqb f.tag 1 e) (ne_eqb (code f) c (λ q. eqb-false c (code f) x (sym q)))))
 
   -- a new rule
-  pub rule_push : f.tag ≡ 2 → count < length rules → Tabled arities symbols (set rules count (length (book_bytes before))) (count + 1) (before ++ f ∷ [])
-  rule_push e room =
+  pub rule_push : (new : Tables) → f.tag ≡ 2 → new.arities ≡ t.arities → new.symbols ≡ t.symbols → new.rules.count ≡ t.rules.count + 1 → take new.rules.count new.rules.entries ≡ take t.rules.count t.rules.entries ++ length (book_bytes before) ∷ [] → TablesOf new (before ++ f ∷ [])
+  rule_push new e same still counted longer =
       let pushed = located_push_0 before f in
       let is : eqb f.tag 2 ≡ true = eq-eqb f.tag 2 e in
       let no_symbol : f.tag ≡ 1 → ⊥ = λ one. omega arith in
       let more : with_tag 2 (located 0 (before ++ f ∷ [])) ≡ with_tag 2 (located 0 before) ++ last ∷ [] = ap (with_tag 2) pushed ∙ tag_same 2 last (located 0 before) is in
       record {
-        arities_are = λ c h. t.arities_are c h ∙ sym (ap (λ ls. arity_place ls c) pushed ∙ arity_other c last (located 0 before) (declares_not c no_symbol));
-        symbols_are = t.symbols_are ∙ ap length (sym (ap (with_tag 1) pushed ∙ tag_other 1 last (located 0 before) (not_eqb 1 no_symbol)));
+        arities_are = λ c. ap (λ p. place_of p c) same ∙ told.arities_are c ∙ sym (ap (λ ls. arity_place ls c) pushed ∙ arity_other c last (located 0 before) (declares_not c no_symbol));
+        symbols_are = still ∙ told.symbols_are ∙ ap length (sym (ap (with_tag 1) pushed ∙ tag_other 1 last (located 0 before) (not_eqb 1 no_symbol)));
         rules_are =
-            take_more_set rules count (length (book_bytes before)) room
-            ∙ ap (λ w. w ++ length (book_bytes before) ∷ []) t.rules_are
+            longer
+            ∙ ap (λ w. w ++ length (book_bytes before) ∷ []) told.rules_are
             ∙ sym (ap (map (λ l. l.offset)) more ∙ map-append (λ l. l.offset) (with_tag 2 (located 0 before)) (last ∷ []));
-        count_is = omega (arith, t.count_is, ap length more, length-append (with_tag 2 (located 0 before)) (last ∷ []));
+        count_is = omega (arith, counted, told.count_is, ap length more, length-append (with_tag 2 (located 0 before)) (last ∷ []));
       }
 
 -- ── what the tables say of the questions ──
 
-module _ (bs arities : List ℕ) (symbols : ℕ) (rules : List ℕ) (count : ℕ) (before : List BookField) (laid : Laid bs before) (tabled : Tabled arities symbols rules count before) (f : BookField) where
-  pub signature_same : arity_in bs arities ≡ signature before
-  signature_same = fun_ext (arity_is bs arities symbols rules count before laid tabled)
+module _ (t : Tables) (before : List BookField) (laid : Laid t.bytes.now before) (told : TablesOf t before) (f : BookField) where
+  pub signature_same : kept_signature t ≡ signature before
+  signature_same = fun_ext (arity_is t before laid told)
 
-  pub declared_not_new : is_some (arity_in bs arities (code f)) ≡ true → SymbolFits before f → ⊥
-  declared_not_new h fits =
-      let e : is_some (arity_in bs arities (code f)) ≡ false = ap is_some (arity_is bs arities symbols rules count before laid tabled (code f) ∙ fits.new) in
-      never (sym h ∙ e)
+  -- a symbol that fits has no place yet, and a code without a place is new
+  pub place_free : SymbolFits before f → place_of t.arities (code f) ≡ None
+  place_free fits = told.arities_are (code f) ∙ no_place before (code f) fits.new
 
-  pub new_symbol : is_some (arity_in bs arities (code f)) ≡ false → signature before (code f) ≡ None
-  new_symbol h = sym (arity_is bs arities symbols rules count before laid tabled (code f)) ∙ none (arity_in bs arities (code f)) h
-    where
-      none : (o : Option ℕ) → is_some o ≡ false → o ≡ None
-      none (Some a) x = absurd (never x)
-      none None x = refl
+  pub symbol_new : place_of t.arities (code f) ≡ None → signature before (code f) ≡ None
+  symbol_new e = is_none_of _ (sym (declared_where (code f) 0 before) ∙ ap is_some (sym (told.arities_are (code f)) ∙ e))
 
-  pub sides_before : SidesFit (arity_in bs arities) f → SidesFit (signature before) f
+  pub sides_before : SidesFit (kept_signature t) f → SidesFit (signature before) f
   sides_before s = subst (λ sig. SidesFit sig f) signature_same s
 
-  pub sides_after : SidesFit (signature before) f → SidesFit (arity_in bs arities) f
+  pub sides_after : SidesFit (signature before) f → SidesFit (kept_signature t) f
   sides_after s = subst (λ sig. SidesFit sig f) (sym signature_same) s

@@ -2,36 +2,35 @@
 use Rattle.std.proofs.Common.{◌≡◌, ℕ, zero, suc, ◌+◌, ◌<◌, ◌≤◌, Bool, true, false, cond, eqb, List, [], ◌∷◌, ◌++◌, length, get_or, sym, refl, ap, ◌∙◌, subst, append_assoc, append-nil, arith, length-append}
 use mathlib.Core.Logic.{∥∥₁_elim}
 use native.Mathlib.Bridge.{le_prop}
-use native.Mathlib.Decide.{ℕ_discrete}
-use mathlib.Core.HLevel.{hedberg}
+use native.Mathlib.Nat.{ℕ_set}
 use Rattle.std.proofs.lemmas.List.{length-map}
 use Rattle.std.proofs.lemmas.Bool.{eqb-true}
 use Rattle.terms.proofs.Sorts.{option_set, bytes_set}
 use Rattle.book.specs.Format.{BookField, field_bytes, book_bytes, fields}
 use Rattle.book.specs.Meaning.{rule_of, Located, located, with_tag, signature_of, fields_of, rules_of}
 use Rattle.book.specs.Questions.{Good, rules_in}
-use Rattle.book.specs.Tables.{arity_in, Laid, Holds}
+use Rattle.book.specs.declared.tables.Tables.{Tables}
+use Rattle.book.specs.Tables.{kept_signature, Laid, Holds}
 use Rattle.book.proofs.Entering.{arity_is, rules_push_same, rules_push_other}
 
-ℕ_set : IsSet ℕ
-ℕ_set = hedberg ℕ_discrete
+module _ (t : Tables) where
+  abbrev bs : List ℕ
+  bs = t.bytes.now
 
-module _ (bs arities : List ℕ) (symbols : ℕ) (rules : List ℕ) (count : ℕ) where
-  held_laid : Holds bs arities symbols rules count → Laid bs (fields bs)
+  held_laid : Holds t → Laid bs (fields bs)
   held_laid h = record { short = h.short; rest = []; form = append-nil (book_bytes (fields bs)) ∙ h.row; good = h.good }
 
-  pub held_arity : ∥ Holds bs arities symbols rules count ∥₁ → (c : ℕ) → arity_in bs arities c ≡ signature_of bs c
-  held_arity held c =
-      ∥∥₁_elim held (option_set (arity_in bs arities c) (signature_of bs c)) (λ h. arity_is bs arities symbols rules count (fields bs) (held_laid h) h.tabled c)
+  pub held_arity : ∥ Holds t ∥₁ → (c : ℕ) → kept_signature t c ≡ signature_of bs c
+  held_arity held c = ∥∥₁_elim held (option_set (kept_signature t c) (signature_of bs c)) (λ h. arity_is t (fields bs) (held_laid h) h.tabled c)
 
-  pub held_symbols : ∥ Holds bs arities symbols rules count ∥₁ → symbols ≡ length (fields_of bs 1)
-  held_symbols held = ∥∥₁_elim held (ℕ_set symbols (length (fields_of bs 1))) (λ h. h.tabled.symbols_are)
+  pub held_symbols : ∥ Holds t ∥₁ → t.symbols ≡ length (fields_of bs 1)
+  held_symbols held = ∥∥₁_elim held (ℕ_set t.symbols (length (fields_of bs 1))) (λ h. h.tabled.symbols_are)
 
-  pub held_count : ∥ Holds bs arities symbols rules count ∥₁ → count ≡ length (rules_of bs)
+  pub held_count : ∥ Holds t ∥₁ → t.rules.count ≡ length (rules_of bs)
   held_count held =
-      ∥∥₁_elim held (ℕ_set count (length (rules_of bs))) (λ h. h.tabled.count_is ∙ sym (length-map (fields_of bs 2) (λ l. rule_of (signature_of bs) l.field)))
+      ∥∥₁_elim held (ℕ_set t.rules.count (length (rules_of bs))) (λ h. h.tabled.count_is ∙ sym (length-map (fields_of bs 2) (λ l. rule_of (signature_of bs) l.field)))
 
-  pub held_row : ∥ Holds bs arities symbols rules count ∥₁ → book_bytes (fields bs) ≡ bs
+  pub held_row : ∥ Holds t ∥₁ → book_bytes (fields bs) ≡ bs
   held_row held = ∥∥₁_elim held (bytes_set (book_bytes (fields bs)) bs) (λ h. h.row)
 
 -- ── at most 32 rules ──
@@ -95,5 +94,5 @@ nth tag at (f ∷ fs) i d h = by (eqb f.tag tag) refl i h (λ j k. nth tag (at +
         let here = ap (λ b. cond b (record { offset = at; field = f } ∷ with_tag tag (located (at + length (field_bytes f)) fs)) (with_tag tag (located (at + length (field_bytes f)) fs))) e in
         step k k (rest k (omega (arith, ap length here))) (ap (λ ls. get_or ls k d) here)
 
-pub held_few : (bs arities : List ℕ) (symbols : ℕ) (rules : List ℕ) (count : ℕ) → ∥ Holds bs arities symbols rules count ∥₁ → count ≤ 32
-held_few bs arities symbols rules count held = ∥∥₁_elim held le_prop (λ h. omega (arith, h.tabled.count_is, few_rules (fields bs) h.good))
+pub held_few : (t : Tables) → ∥ Holds t ∥₁ → t.rules.count ≤ 32
+held_few t held = ∥∥₁_elim held le_prop (λ h. omega (arith, h.tabled.count_is, few_rules (fields t.bytes.now) h.good))

@@ -1,6 +1,7 @@
 pub mod FieldBytes
 pub mod Sides
 pub mod Entering
+pub mod ReaderAnswers
 pub mod Progress
 pub mod Held
 pub mod RuleSides

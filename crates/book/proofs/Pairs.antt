@@ -1,24 +1,21 @@
 -- Where the values of fields stand in the bytes of a book; of a value that is a code and one byte more, that byte.
 use Rattle.std.proofs.Common.{◌≡◌, ℕ, ◌+◌, ◌-◌, ◌%◌, ◌<◌, ◌≤◌, Bool, true, false, cond, ◌&&◌, eqb, ltb, List, [], ◌∷◌, ◌++◌, length, get_or, take, drop, Some, None, sym, refl, ap, ◌∙◌, subst, arith, length-append, MatchOption}
-use mathlib.Core.List.{List-discrete}
 use mathlib.Core.Logic.{∥∥₁_elim}
 use native.Mathlib.Bridge.{le_prop}
-use native.Mathlib.Decide.{ℕ_discrete}
-use mathlib.Core.HLevel.{hedberg}
+use native.Mathlib.Nat.{ℕ_set}
 use Rattle.std.proofs.lemmas.List.{get_or_at, drop_at, drop-drop, take_at}
-use Rattle.std.proofs.lemmas.Bool.{eqb-true, ltb-true, le-ltb}
+use Rattle.std.proofs.lemmas.Bool.{eqb-true, ltb-true}
+use Rattle.terms.proofs.Sorts.{option_set, bytes_set}
 use Rattle.book.specs.declared.shape.Shape.{Shape}
 use Rattle.book.specs.Format.{BookField, field_bytes, book_bytes, fields, exactly, shape_of, FitsShape, value_length}
 use Rattle.book.specs.Meaning.{code, arity, signature, Located, fields_of, signature_of}
 use Rattle.book.specs.Questions.{Good}
+use Rattle.book.specs.declared.tables.Tables.{Tables}
 use Rattle.book.specs.Tables.{byte_at, Holds}
-use Rattle.book.proofs.Entering.{arity_byte}
+use Rattle.book.proofs.Entering.{arity_byte, good_shaped, high_none}
 use Rattle.book.proofs.FieldBytes.{length_back}
-use Rattle.book.proofs.Held.{nth, held_arity}
+use Rattle.book.proofs.Held.{nth}
 use Rattle.book.proofs.RuleSides.{good_at, book_bytes_append}
-
-ℕ_set : IsSet ℕ
-ℕ_set = hedberg ℕ_discrete
 
 -- the value has two bytes, and the second stands four bytes behind the field's offset
 pub record Pair (bs : List ℕ) (l : Located) : Type 0 where
@@ -55,8 +52,11 @@ there bs p v e = by (ltb p (length bs)) refl e
 exact_length : (n : ℕ) → FitsShape (exactly 2) n → n ≡ 2
 exact_length n f = omega (arith, f.0, f.1)
 
-module _ (bs arities : List ℕ) (symbols : ℕ) (rules : List ℕ) (count : ℕ) where
-  pair_of : (tag : ℕ) → shape_of tag ≡ Some (exactly 2) → (before rest : List Located) (l : Located) → fields_of bs tag ≡ before ++ l ∷ rest → Holds bs arities symbols rules count → Pair bs l
+module _ (t : Tables) where
+  abbrev bs : List ℕ
+  bs = t.bytes.now
+
+  pair_of : (tag : ℕ) → shape_of tag ≡ Some (exactly 2) → (before rest : List Located) (l : Located) → fields_of bs tag ≡ before ++ l ∷ rest → Holds t → Pair bs l
   pair_of tag shape before rest l e h =
       let n = nth tag 0 (fields bs) (length before) l (omega (arith, ap length e, length-append before (l ∷ rest))) in
       let f = n.field in
@@ -65,10 +65,10 @@ module _ (bs arities : List ℕ) (symbols : ℕ) (rules : List ℕ) (count : ℕ
       let passed = good_at [] n.pre n.post f (subst (Good []) n.splits h.good) in
       let fits = subst (λ o. MatchOption o ⊥ (λ s. FitsShape s (length f.value))) (ap shape_of n.tag_is ∙ shape) passed.1.0 in
       let two : length f.value ≡ 2 = exact_length (length f.value) fits in
-      let byte = there bs ((0 + length (book_bytes n.pre)) + 4) (arity f) (arity_byte bs 0 h.short (book_bytes n.pre) (0 + length (book_bytes n.pre)) f (book_bytes n.post) (omega arith) form two) in
+      let byte = there bs ((0 + length (book_bytes n.pre)) + 4) (arity f) (arity_byte bs 0 (book_bytes n.pre) (0 + length (book_bytes n.pre)) f (book_bytes n.post) (omega arith) form two) in
       subst (Pair bs) (sym is) (record { two = two; inside = byte.0; second = byte.1 })
 
-  pub held_pair : (tag : ℕ) → shape_of tag ≡ Some (exactly 2) → (before rest : List Located) (l : Located) → fields_of bs tag ≡ before ++ l ∷ rest → ∥ Holds bs arities symbols rules count ∥₁ → Pair bs l
+  pub held_pair : (tag : ℕ) → shape_of tag ≡ Some (exactly 2) → (before rest : List Located) (l : Located) → fields_of bs tag ≡ before ++ l ∷ rest → ∥ Holds t ∥₁ → Pair bs l
   held_pair tag shape before rest l e held = record {
     two = ∥∥₁_elim held (ℕ_set (length l.field.value) 2) (λ h. (pair_of tag shape before rest l e h).two);
     inside = ∥∥₁_elim held le_prop (λ h. (pair_of tag shape before rest l e h).inside);
@@ -76,16 +76,16 @@ module _ (bs arities : List ℕ) (symbols : ℕ) (rules : List ℕ) (count : ℕ
   }
 
   -- a book is short
-  pub held_short : ∥ Holds bs arities symbols rules count ∥₁ → length bs ≤ 4096
+  pub held_short : ∥ Holds t ∥₁ → length bs ≤ 4096
   held_short held = ∥∥₁_elim held le_prop (λ h. h.short)
 
   -- only bytes below 80 are codes
-  pub held_codes : ∥ Holds bs arities symbols rules count ∥₁ → (c : ℕ) → 128 ≤ c → signature_of bs c ≡ None
-  held_codes held c h = sym (held_arity bs arities symbols rules count held c) ∙ ap (λ b. cond b (byte_at bs (get_or arities c 0)) None) (le-ltb c 128 h)
+  pub held_codes : ∥ Holds t ∥₁ → (c : ℕ) → 128 ≤ c → signature_of bs c ≡ None
+  held_codes held c h = ∥∥₁_elim held (option_set (signature_of bs c) None) (λ held. high_none c (fields bs) (good_shaped [] (fields bs) held.good) h)
 
   -- ── the value of any field ──
 
-  value_of : (tag : ℕ) (before rest : List Located) (l : Located) → fields_of bs tag ≡ before ++ l ∷ rest → Holds bs arities symbols rules count → ValueThere bs tag l
+  value_of : (tag : ℕ) (before rest : List Located) (l : Located) → fields_of bs tag ≡ before ++ l ∷ rest → Holds t → ValueThere bs tag l
   value_of tag before rest l e h =
       let n = nth tag 0 (fields bs) (length before) l (omega (arith, ap length e, length-append before (l ∷ rest))) in
       let f = n.field in
@@ -103,14 +103,14 @@ module _ (bs arities : List ℕ) (symbols : ℕ) (rules : List ℕ) (count : ℕ
         value_is = ap (λ w. take (length f.value) w) (sym (drop-drop 3 (0 + length (book_bytes n.pre)) bs) ∙ ap (drop 3) at_it) ∙ take_at f.value (book_bytes n.post) (length f.value) refl;
       })
 
-  pub held_value : (tag : ℕ) (before rest : List Located) (l : Located) → fields_of bs tag ≡ before ++ l ∷ rest → ∥ Holds bs arities symbols rules count ∥₁ → ValueThere bs tag l
+  pub held_value : (tag : ℕ) (before rest : List Located) (l : Located) → fields_of bs tag ≡ before ++ l ∷ rest → ∥ Holds t ∥₁ → ValueThere bs tag l
   held_value tag before rest l e held = record {
     fits = λ s shape. ∥∥₁_elim held (fits_prop s (length l.field.value)) (λ h. (value_of tag before rest l e h).fits s shape);
     counted = ∥∥₁_elim held (ℕ_set (value_length (drop l.offset bs)) (length l.field.value)) (λ h. (value_of tag before rest l e h).counted);
     inside = ∥∥₁_elim held le_prop (λ h. (value_of tag before rest l e h).inside);
-    value_is = ∥∥₁_elim held (hedberg (List-discrete ℕ_discrete) (take (length l.field.value) (drop (l.offset + 3) bs)) l.field.value) (λ h. (value_of tag before rest l e h).value_is);
+    value_is = ∥∥₁_elim held (bytes_set (take (length l.field.value) (drop (l.offset + 3) bs)) l.field.value) (λ h. (value_of tag before rest l e h).value_is);
   }
 
   -- no symbol has more than three arguments
-  pub held_arities : ∥ Holds bs arities symbols rules count ∥₁ → (c n : ℕ) → signature_of bs c ≡ Some n → n ≤ 3
+  pub held_arities : ∥ Holds t ∥₁ → (c n : ℕ) → signature_of bs c ≡ Some n → n ≤ 3
   held_arities held c n e = ∥∥₁_elim held le_prop (λ h. few_arguments [] (fields bs) c n h.good e)

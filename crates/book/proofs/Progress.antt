@@ -1,18 +1,14 @@
 -- How far a book has been read: good fields behind the reader, and their tables.
-use Rattle.std.proofs.Common.{◌≡◌, ℕ, suc, ◌+◌, ◌<◌, ◌≤◌, Bool, true, false, cond, eqb, List, [], ◌∷◌, ◌++◌, length, get_or, drop, Some, None, Option, sym, refl, ap, ◌∙◌, subst, ap₂, inl, inr, append_assoc, append-nil, arith, length-append, length-drop, MatchOption}
+use Rattle.std.proofs.Common.{◌≡◌, ℕ, suc, ◌+◌, ◌<◌, ◌≤◌, Bool, true, false, cond, eqb, List, [], ◌∷◌, ◌++◌, length, get_or, drop, Some, Option, sym, refl, ap, ◌∙◌, subst, ap₂, inl, inr, append_assoc, append-nil, arith, length-append, length-drop}
 use Rattle.std.proofs.lemmas.List.{drop_at, get_or-drop}
 use Rattle.terms.specs.Question.{AllYes, FirstNo}
-use Rattle.std.proofs.lemmas.Option.{MatchOption-at_some, MatchOption-at_none}
 use Rattle.book.specs.declared.fault.Fault.{Fault}
-use Rattle.book.specs.declared.field.Field.{Field}
 use Rattle.book.specs.declared.tables.Tables.{Tables}
 use Rattle.book.specs.Format.{BookField, field_bytes, book_bytes, value_length, fields}
 use Rattle.book.specs.Faults.{number_of, offset_of}
 use Rattle.book.specs.Meaning.{Located, located, with_tag}
 use Rattle.book.specs.Questions.{FieldRead, AtEnd, NotRead, field_questions, questions, Good, Accepted, Refused}
-use Rattle.book.specs.Tables.{Tabled, Laid, Holds}
-use Rattle.book.specs.Views.{meant}
-use Rattle.book.specs.Kept.{TablesOf}
+use Rattle.book.specs.Tables.{TablesOf, Laid, Holds}
 use Rattle.book.proofs.FieldBytes.{fields_back, bytes_back, few_fields}
 use Rattle.book.proofs.Entering.{good_push}
 
@@ -23,14 +19,6 @@ pub record Progress (bs : List ℕ) (t : Tables) (at : ℕ) : Type 0 where
   pub tables : TablesOf t before
   pub reached : at ≡ length (book_bytes before)
   pub bytes_are : t.bytes.now ≡ bs
-
--- what the reader's answer says, once it is known which one came
-module _ (bs read : List ℕ) (same : read ≡ bs) (at then : ℕ) (o : Option Field) (answer : MatchOption o (AtEnd read at then) (λ f. FieldRead read at f.offset (meant f) then)) where
-  pub field_came : (f : Field) → o ≡ Some f → FieldRead bs at f.offset (meant f) then
-  field_came f e = subst (λ w. FieldRead w at f.offset (meant f) then) same (MatchOption-at_some (AtEnd read at then) (λ g. FieldRead read at g.offset (meant g) then) f e answer)
-
-  pub end_came : o ≡ None → AtEnd bs at then
-  end_came e = subst (λ w. AtEnd w at then) same (MatchOption-at_none (AtEnd read at then) (λ g. FieldRead read at g.offset (meant g) then) e answer)
 
 book_bytes_push : (fs : List BookField) (f : BookField) → book_bytes (fs ++ f ∷ []) ≡ book_bytes fs ++ field_bytes f
 book_bytes_push [] f = append-nil (field_bytes f)
@@ -86,16 +74,17 @@ module _ (bs : List ℕ) (t : Tables) (at : ℕ) (p : Progress bs t at) where
       }
 
   -- nothing is left
-  pub progress_end : (then : ℕ) → AtEnd bs at then → Accepted bs × Holds bs t.arities t.symbols t.rules t.count
+  pub progress_end : (then : ℕ) → AtEnd bs at then → Accepted bs × Holds t
   progress_end then e =
       let all : book_bytes p.before ≡ bs = sym (append-nil (book_bytes p.before)) ∙ ap (λ w. book_bytes p.before ++ w) (sym e.nothing) ∙ form in
-      let same : p.before ≡ fields bs = sym (fields_back p.before) ∙ ap fields all in (
+      let row : book_bytes p.before ≡ t.bytes.now = all ∙ sym p.bytes_are in
+      let same : p.before ≡ fields t.bytes.now = sym (fields_back p.before) ∙ ap fields row in (
         record { short = p.laid.short; contents = p.before; form = all; good = p.laid.good },
         record {
-          short = p.laid.short;
-          row = ap book_bytes (sym same) ∙ all;
+          short = laid_here.short;
+          row = ap book_bytes (sym same) ∙ row;
           good = subst (Good []) same p.laid.good;
-          tabled = subst (λ fs. Tabled t.arities t.symbols t.rules t.count fs) same p.tables;
+          tabled = subst (TablesOf t) same p.tables;
         },
       )
 

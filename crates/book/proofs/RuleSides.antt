@@ -10,11 +10,12 @@ use Rattle.terms.specs.Question.{AllYes}
 use Rattle.terms.proofs.Reading.{prefix_length, bytes_read_as_their_term}
 use Rattle.terms.proofs.Sorts.{well_sorted_prop, reads_prop, sorted_more}
 use Rattle.book.specs.declared.fault.Fault.{Fault}
-use Rattle.book.specs.declared.field.Sides.{Sides}
+use Rattle.terms.specs.declared.side.Sides.{Sides}
 use Rattle.book.specs.Format.{BookField, field_bytes, book_bytes, field_at, fields}
 use Rattle.book.specs.Meaning.{arity, declares, signature, left_side, right_side, rule_of, Located, located, with_tag, signature_of, rules_of}
 use Rattle.book.specs.Questions.{Whole, FieldRead, AtEnd, NotRead, Good, field_questions, IsSide}
 use Rattle.book.specs.Queries.{SidesOf}
+use Rattle.book.specs.declared.tables.Tables.{Tables}
 use Rattle.book.specs.Tables.{Holds}
 use Rattle.book.proofs.FieldBytes.{length_back, field_back}
 use Rattle.book.proofs.Held.{nth, held_count}
@@ -38,15 +39,15 @@ declared_stays (f ∷ fs) gs c a e = by (declares c f) e (declared_stays fs gs c
     by false h later = later h
 
 -- where the rule i stands
-pub record Stands (bs rules : List ℕ) (i : ℕ) : Type 0 where
+pub record Stands (t : Tables) (i : ℕ) : Type 0 where
   pub field : BookField
   pub more : List ℕ
-  pub there : drop (get_or rules i 0) bs ≡ field_bytes field ++ more
-  pub inside : get_or rules i 0 ≤ length bs
-  pub listed : i < length (rules_of bs)
-  pub rule_is : rule_at (rules_of bs) i ≡ rule_of (signature_of bs) field
-  pub left_fits : IsSide (signature_of bs) (left_side field)
-  pub right_fits : IsSide (signature_of bs) (right_side field)
+  pub there : drop (get_or t.rules.entries i 0) t.bytes.now ≡ field_bytes field ++ more
+  pub inside : get_or t.rules.entries i 0 ≤ length t.bytes.now
+  pub listed : i < length (rules_of t.bytes.now)
+  pub rule_is : rule_at (rules_of t.bytes.now) i ≡ rule_of (signature_of t.bytes.now) field
+  pub left_fits : IsSide (signature_of t.bytes.now) (left_side field)
+  pub right_fits : IsSide (signature_of t.bytes.now) (right_side field)
 
 side_more : (sig more : Arities) → ((c a : ℕ) → sig c ≡ Some a → more c ≡ Some a) → (bs : List ℕ) → IsSide sig bs → IsSide more bs
 side_more sig more h bs s =
@@ -56,17 +57,22 @@ side_more sig more h bs s =
 nothing_located : Located
 nothing_located = record { offset = 0; field = record { tag = 0; value = [] } }
 
-module _ (bs arities : List ℕ) (symbols : ℕ) (rules : List ℕ) (count : ℕ) (i : ℕ) (below : i < count) where
-  stands : Holds bs arities symbols rules count → Stands bs rules i
+module _ (t : Tables) (i : ℕ) (below : i < t.rules.count) where
+  abbrev bs : List ℕ
+  bs = t.bytes.now
+
+  abbrev rules : List ℕ
+  rules = t.rules.entries
+
+  stands : Holds t → Stands t i
   stands h =
       let fs = fields bs in
-      let t = h.tabled in
-      let counted : i < length (with_tag 2 (located 0 fs)) = omega (arith, t.count_is) in
+      let counted : i < length (with_tag 2 (located 0 fs)) = omega (arith, h.tabled.count_is) in
       let n = nth 2 0 fs i nothing_located counted in
       let f = n.field in
       let place : get_or rules i 0 ≡ length (book_bytes n.pre) =
-      sym (get_or-take count rules i 0 below)
-      ∙ ap (λ w. get_or w i 0) t.rules_are
+      sym (get_or-take t.rules.count rules i 0 below)
+      ∙ ap (λ w. get_or w i 0) h.tabled.rules_are
       ∙ get_or-map (λ l. l.offset) (with_tag 2 (located 0 fs)) i nothing_located 0 counted
       ∙ ap (λ l. l.offset) n.is
       ∙ omega arith in
@@ -85,7 +91,7 @@ module _ (bs arities : List ℕ) (symbols : ℕ) (rules : List ℕ) (count : ℕ
         right_fits = side_more (signature n.pre) (signature fs) larger (right_side f) sides.1;
       }
 
-  module _ (held : ∥ Holds bs arities symbols rules count ∥₁) where
+  module _ (held : ∥ Holds t ∥₁) where
     pub rule_inside : get_or rules i 0 ≤ length bs
     rule_inside = ∥∥₁_elim held le_prop (λ h. (stands h).inside)
 
@@ -112,52 +118,52 @@ sides_prop bs i left right a b = λ k. record {
   right_most = le_prop a.right_most b.right_most k;
 }
 
-sides_from : (bs rules : List ℕ) (i : ℕ) → Stands bs rules i → (f : BookField) → f ≡ field_at (drop (get_or rules i 0) bs) → (left right : List ℕ) → left ≡ left_side f → right ≡ right_side f → SidesOf bs i left right
-sides_from bs rules i s f e left right l r =
+sides_from : (t : Tables) (i : ℕ) → Stands t i → (f : BookField) → f ≡ field_at (drop (get_or t.rules.entries i 0) t.bytes.now) → (left right : List ℕ) → left ≡ left_side f → right ≡ right_side f → SidesOf t.bytes.now i left right
+sides_from t i s f e left right l r =
     let same : f ≡ s.field = e ∙ ap field_at s.there ∙ field_back s.field s.more in
     let left_is : left ≡ left_side s.field = l ∙ ap left_side same in
     let right_is : right ≡ right_side s.field = r ∙ ap right_side same in
     record {
       listed = s.listed;
-      left_reads = subst (λ w. Reads (signature_of bs) 4 left w) (ap (λ x. x.left) (sym s.rule_is)) (subst (λ w. Reads (signature_of bs) 4 w (term_of (signature_of bs) (left_side s.field))) (sym left_is) (reads_side bs (left_side s.field) s.left_fits));
-      right_reads = subst (λ w. Reads (signature_of bs) 4 right w) (ap (λ x. x.right) (sym s.rule_is)) (subst (λ w. Reads (signature_of bs) 4 w (term_of (signature_of bs) (right_side s.field))) (sym right_is) (reads_side bs (right_side s.field) s.right_fits));
+      left_reads = subst (λ w. Reads (signature_of t.bytes.now) 4 left w) (ap (λ x. x.left) (sym s.rule_is)) (subst (λ w. Reads (signature_of t.bytes.now) 4 w (term_of (signature_of t.bytes.now) (left_side s.field))) (sym left_is) (reads_side t.bytes.now (left_side s.field) s.left_fits));
+      right_reads = subst (λ w. Reads (signature_of t.bytes.now) 4 right w) (ap (λ x. x.right) (sym s.rule_is)) (subst (λ w. Reads (signature_of t.bytes.now) 4 w (term_of (signature_of t.bytes.now) (right_side s.field))) (sym right_is) (reads_side t.bytes.now (right_side s.field) s.right_fits));
       left_most = omega (arith, s.left_fits.most, ap length left_is);
       right_most = omega (arith, s.right_fits.most, ap length right_is);
     }
 
 -- the rule i has sides of the signature, of at most 32 symbols
-module _ (bs arities : List ℕ) (symbols : ℕ) (rules : List ℕ) (count i : ℕ) (listed : i < length (rules_of bs)) (held : ∥ Holds bs arities symbols rules count ∥₁) where
-  below : i < count
-  below = omega (arith, listed, held_count bs arities symbols rules count held)
+module _ (t : Tables) (i : ℕ) (listed : i < length (rules_of t.bytes.now)) (held : ∥ Holds t ∥₁) where
+  below : i < t.rules.count
+  below = omega (arith, listed, held_count t held)
 
-  side_size : (side : List ℕ) → IsSide (signature_of bs) side → size (term_of (signature_of bs) side) ≤ 32
-  side_size side s = omega (arith, s.most, prefix_length (term_of (signature_of bs) side), ap length (reads_side bs side s).form)
+  side_size : (side : List ℕ) → IsSide (signature_of t.bytes.now) side → size (term_of (signature_of t.bytes.now) side) ≤ 32
+  side_size side s = omega (arith, s.most, prefix_length (term_of (signature_of t.bytes.now) side), ap length (reads_side t.bytes.now side s).form)
 
-  pub held_left : WellSorted (signature_of bs) 4 (rule_at (rules_of bs) i).left
-  held_left = ∥∥₁_elim held (well_sorted_prop (signature_of bs) 4 (rule_at (rules_of bs) i).left) (λ h.
-      let s = stands bs arities symbols rules count i below h in
-      subst (λ r. WellSorted (signature_of bs) 4 r.left) (sym s.rule_is) (reads_side bs (left_side s.field) s.left_fits).sorted)
+  pub held_left : WellSorted (signature_of t.bytes.now) 4 (rule_at (rules_of t.bytes.now) i).left
+  held_left = ∥∥₁_elim held (well_sorted_prop (signature_of t.bytes.now) 4 (rule_at (rules_of t.bytes.now) i).left) (λ h.
+      let s = stands t i below h in
+      subst (λ r. WellSorted (signature_of t.bytes.now) 4 r.left) (sym s.rule_is) (reads_side t.bytes.now (left_side s.field) s.left_fits).sorted)
 
-  pub held_right : WellSorted (signature_of bs) 4 (rule_at (rules_of bs) i).right
-  held_right = ∥∥₁_elim held (well_sorted_prop (signature_of bs) 4 (rule_at (rules_of bs) i).right) (λ h.
-      let s = stands bs arities symbols rules count i below h in
-      subst (λ r. WellSorted (signature_of bs) 4 r.right) (sym s.rule_is) (reads_side bs (right_side s.field) s.right_fits).sorted)
+  pub held_right : WellSorted (signature_of t.bytes.now) 4 (rule_at (rules_of t.bytes.now) i).right
+  held_right = ∥∥₁_elim held (well_sorted_prop (signature_of t.bytes.now) 4 (rule_at (rules_of t.bytes.now) i).right) (λ h.
+      let s = stands t i below h in
+      subst (λ r. WellSorted (signature_of t.bytes.now) 4 r.right) (sym s.rule_is) (reads_side t.bytes.now (right_side s.field) s.right_fits).sorted)
 
-  pub held_left_size : size (rule_at (rules_of bs) i).left ≤ 32
+  pub held_left_size : size (rule_at (rules_of t.bytes.now) i).left ≤ 32
   held_left_size = ∥∥₁_elim held le_prop (λ h.
-      let s = stands bs arities symbols rules count i below h in
+      let s = stands t i below h in
       subst (λ r. size r.left ≤ 32) (sym s.rule_is) (side_size (left_side s.field) s.left_fits))
 
-no_sides : (bs rules : List ℕ) (i : ℕ) → Stands bs rules i → (f : BookField) → f ≡ field_at (drop (get_or rules i 0) bs) → length f.value < 1 + get_or f.value 0 0 → ⊥
-no_sides bs rules i s f e short =
+no_sides : (t : Tables) (i : ℕ) → Stands t i → (f : BookField) → f ≡ field_at (drop (get_or t.rules.entries i 0) t.bytes.now) → length f.value < 1 + get_or f.value 0 0 → ⊥
+no_sides t i s f e short =
     let same : f ≡ s.field = e ∙ ap field_at s.there ∙ field_back s.field s.more in
     let nothing : right_side f ≡ [] = drop_all (1 + get_or f.value 0 0) f.value (omega arith) in
     omega (arith, s.right_fits.some, ap length (ap right_side (sym same) ∙ nothing))
 
-pub sides_held : (bs arities : List ℕ) (symbols : ℕ) (rules : List ℕ) (count i : ℕ) → i < count → ∥ Holds bs arities symbols rules count ∥₁ → (offset : ℕ) (f : BookField) (then : ℕ) → FieldRead bs (get_or rules i 0) offset f then → (r : Option Sides)
+pub sides_held : (t : Tables) (i : ℕ) → i < t.rules.count → ∥ Holds t ∥₁ → (offset : ℕ) (f : BookField) (then : ℕ) → FieldRead t.bytes.now (get_or t.rules.entries i 0) offset f then → (r : Option Sides)
     → MatchOption r (length f.value < 1 + get_or f.value 0 0) (λ s. (1 + get_or f.value 0 0 ≤ length f.value) × (s.left.now ≡ left_side f) × (s.right.now ≡ right_side f))
-    → MatchOption r (length (rules_of bs) ≤ i) (λ s. SidesOf bs i s.left.now s.right.now)
-sides_held bs arities symbols rules count i below held offset f then read None short =
-    absurd (∥∥₁_elim held ⊥_prop (λ h. no_sides bs rules i (stands bs arities symbols rules count i below h) f read.field_is short))
-sides_held bs arities symbols rules count i below held offset f then read (Some s) found =
-    ∥∥₁_elim held (sides_prop bs i s.left.now s.right.now) (λ h. sides_from bs rules i (stands bs arities symbols rules count i below h) f read.field_is s.left.now s.right.now found.1 found.2)
+    → MatchOption r (length (rules_of t.bytes.now) ≤ i) (λ s. SidesOf t.bytes.now i s.left.now s.right.now)
+sides_held t i below held offset f then read None short =
+    absurd (∥∥₁_elim held ⊥_prop (λ h. no_sides t i (stands t i below h) f read.field_is short))
+sides_held t i below held offset f then read (Some s) found =
+    ∥∥₁_elim held (sides_prop t.bytes.now i s.left.now s.right.now) (λ h. sides_from t i (stands t i below h) f read.field_is s.left.now s.right.now found.1 found.2)

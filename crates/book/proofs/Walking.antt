@@ -2,11 +2,12 @@
 use Rattle.std.proofs.Common.{◌≡◌, ℕ, ◌+◌, ◌<◌, ◌≤◌, Bool, true, false, cond, eqb, List, [], ◌∷◌, ◌++◌, length, drop, Some, None, Ok, Err, Option, Result, sym, refl, ap, ◌∙◌, subst, ap₂, arith, length-append, length-drop}
 use Rattle.std.proofs.lemmas.List.{drop-drop}
 use Rattle.std.proofs.lemmas.Bool.{eqb-true, eq-eqb}
-use Rattle.std.specs.Result as results
-use Rattle.std.specs.Option as options
 use Rattle.book.specs.declared.fault.Fault.{Fault}
+use Rattle.std.specs.Iterator.{MakesProgress, item_count}
 use Rattle.book.specs.declared.field.Field.{Field}
-use Rattle.book.specs.Views.{meant}
+use Rattle.book.specs.declared.fields.Fields.{Fields}
+use Rattle.book.specs.Walks.{HandsOut, fields_left}
+use Rattle.book.specs.Views.{meant, ReaderGives}
 use Rattle.book.specs.Format.{BookField, field_bytes, book_bytes, value_length, field_at, fields, Row}
 use Rattle.book.specs.Meaning.{located, with_tag, fields_from}
 use Rattle.book.specs.Questions.{Whole, FieldRead, AtEnd, NotRead}
@@ -82,7 +83,14 @@ module _ (bs : List ℕ) (at : ℕ) (row : Row (drop at bs)) where
   )
 
   -- whatever the reader answers, it stays at a row of fields
-  pub row_kept : (r : Result (Option Field) Fault) (then : ℕ) → results.MatchResult r (λ o. options.MatchOption o (AtEnd bs at then) (λ f. FieldRead bs at f.offset (meant f) then)) (λ e. NotRead bs at e then) → Row (drop then bs)
+  pub row_kept : (r : Result (Option Field) Fault) (then : ℕ) → ReaderGives bs at r then → Row (drop then bs)
   row_kept (Ok (Some f)) then a = row_more f.offset (meant f) then a
   row_kept (Ok None) then a = subst (λ n. Row (drop n bs)) (sym a.stays) row
   row_kept (Err e) then a = subst (λ n. Row (drop n bs)) (sym a.stays) row
+
+-- each field that is handed out is one less that is left
+pub goes_on : (can : Fields → Type 0) → ((t : Fields) → can t) → (s t : Fields) (found : Option Field) → HandsOut s found t → MakesProgress can (item_count fields_left) s found t
+goes_on can always s t None h = record { on = λ _. tt; keeps = tt; rests = λ _. tt }
+goes_on can always s t (Some f) h =
+    let left = ap₂ (λ w n. length (fields_from t.reader.at w n)) h.bytes h.tag in
+    record { on = λ _. (always t, tt, omega (arith, ap length h.answer, left)); keeps = always t; rests = λ _. tt }

@@ -1,9 +1,11 @@
 pub mod Format
+pub mod Tags
 pub mod Faults
 pub mod Meaning
 pub mod Questions
+pub mod Places
 pub mod Tables
 pub mod Views
-pub mod Kept
 pub mod Queries
+pub mod Walks
 pub mod Theorems

@@ -1,6 +1,7 @@
 -- Which bytes are a book, and which question says the first no to any others.
 use Rattle.std.specs.Prelude.{◌≡◌, ℕ, ◌+◌, ◌<◌, ◌≤◌, true, List, [], ◌∷◌, ◌++◌, length, drop, is_some, Some, None, Option, MatchOption}
-use Rattle.terms.specs.Prefix.{Arities, IsTerm}
+use Rattle.terms.specs.Prefix.{Arities}
+pub use Rattle.terms.specs.Side.{IsSide}
 use Rattle.terms.specs.Question.{Question, AllYes, FirstNo}
 use Rattle.book.specs.Format.{BookField, book_bytes, shape_of, FitsShape, value_length, field_at}
 use Rattle.book.specs.declared.fault.Fault.{Fault}
@@ -47,11 +48,6 @@ pub record SymbolFits (before : List BookField) (f : BookField) : Type 0 where
   pub few : arity f ≤ 3
 
 -- 6: each side of a rule has 1 to 32 bytes and is one term of the symbols declared before, with the variables 80 to 83
-pub record IsSide (sig : Arities) (bs : List ℕ) : Type 0 where
-  pub some : 1 ≤ length bs
-  pub most : length bs ≤ 32
-  pub term : IsTerm sig 4 bs
-
 abbrev pub SidesFit : Arities → BookField → Type 0
 SidesFit sig f = IsSide sig (left_side f) × IsSide sig (right_side f)
 

@@ -20,13 +20,13 @@ const BOOK_LIMIT: usize = 4096;
 #[derive(Clone, Copy)]
 pub struct Book<'a> {
     tables: Tables<'a>,
-    ghost holds: { ∥ Holds tables.bytes.now tables.arities tables.symbols tables.rules tables.count ∥₁ },
+    ghost holds: { ∥ Holds tables ∥₁ },
 }
 
 // The tables of the book that the bytes are, or the first question that says no.
 fn tables_of<'a>(bytes: &'a [u8]) -> Result<Tables<'a>, Fault>
     ensures { MatchResult result
-        (λ t. (t.bytes.now ≡ bytes.now) × Accepted bytes.now × Holds bytes.now t.arities t.symbols t.rules t.count)
+        (λ t. (t.bytes.now ≡ bytes.now) × Accepted bytes.now × Holds t)
         (λ e. Refused bytes.now (number_of e) (offset_of e)) }
 {
     if bytes.len() > BOOK_LIMIT {
@@ -78,7 +78,7 @@ impl<'a> Book<'a> {
     pub fn rule_count(&self) -> usize
         ensures { (result ≡ length (rules_of self.now.tables.bytes.now)) × (result ≤ 32) }
     {
-        self.tables.count
+        self.tables.rules.len()
     }
 
     // The sides of the rule i, as parts of the book's bytes, or None past the last rule.
@@ -87,17 +87,9 @@ impl<'a> Book<'a> {
             (length (rules_of self.now.tables.bytes.now) ≤ i)
             (λ s. SidesOf self.now.tables.bytes.now i s.left.now s.right.now) }
     {
-        if i >= self.rule_count() {
-            return None;
-        }
-        let place = self.tables.rules[i] as usize;
+        let place = self.tables.rules.get(i)?;
         let mut reader = Reader::at_place(self.tables.bytes, place);
-        let Ok(next) = reader.next() else {
-            return None;
-        };
-        let Some(field) = next else {
-            return None;
-        };
+        let field = reader.next().ok()??;
         field.sides()
     }
 

@@ -36,12 +36,12 @@ impl Fault {
     {
         match self {
             Fault::TooLong => None,
-            Fault::NotWhole(at) => Some(*at),
-            Fault::UnknownTag(at) => Some(*at),
-            Fault::WrongLength(at) => Some(*at),
-            Fault::BadSymbol(at) => Some(*at),
-            Fault::BadRule(at) => Some(*at),
-            Fault::TooManyRules(at) => Some(*at),
+            Fault::NotWhole(at)
+            | Fault::UnknownTag(at)
+            | Fault::WrongLength(at)
+            | Fault::BadSymbol(at)
+            | Fault::BadRule(at)
+            | Fault::TooManyRules(at) => Some(*at),
         }
     }
 }

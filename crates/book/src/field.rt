@@ -3,19 +3,14 @@ ghost use Rattle.std.specs.Prelude.{◌≡◌, ◌+◌, ◌<◌, ◌≤◌, leng
 ghost use Rattle.book.specs.Meaning.{left_side, right_side};
 ghost use Rattle.book.specs.Views.{meant};
 
+pub use terms::side::Sides;
+
 // A field as a part of lent bytes.
-#[derive(Clone, Copy)]
+#[derive(Clone, Copy, PartialEq, Eq, Debug)]
 pub struct Field<'a> {
     pub offset: usize,
     pub tag: u8,
     pub value: &'a [u8],
-}
-
-// The two sides of a rule.
-#[derive(Clone, Copy)]
-pub struct Sides<'a> {
-    pub left: &'a [u8],
-    pub right: &'a [u8],
 }
 
 impl<'a> Field<'a> {
@@ -27,17 +22,8 @@ impl<'a> Field<'a> {
             × (s.left.now ≡ left_side (meant self.now))
             × (s.right.now ≡ right_side (meant self.now))) }
     {
-        let value = self.value;
-        if value.is_empty() {
-            return None;
-        }
-        let end = 1 + value[0] as usize;
-        if end > value.len() {
-            return None;
-        }
-        Some(Sides {
-            left: &value[1..end],
-            right: &value[end..],
-        })
+        let (length, sides) = self.value.split_first()?;
+        let (left, right) = sides.split_at_checked(*length as usize)?;
+        Some(Sides { left, right })
     }
 }

@@ -1,7 +1,7 @@
 // The fields of one tag in a read book.
-ghost use Rattle.std.specs.Prelude.{◌≡◌, drop};
+ghost use Rattle.std.specs.Prelude.{drop};
+ghost use Rattle.std.specs.Iterator.{item_count};
 ghost use Rattle.book.specs.Format.{Row};
-ghost use Rattle.book.specs.Queries.{NextOf};
 
 use crate::field::Field;
 use crate::reader::Reader;
@@ -14,17 +14,18 @@ pub struct Fields<'a> {
     ghost row: { Row (drop reader.at reader.bytes.now) },
 }
 
-impl<'a> Fields<'a> {
+impl<'a> Iterator for Fields<'a> {
+    ghost use Rattle.book.specs.Walks.{HandsOut, fields_left};
+
+    type Item = Field<'a>;
+
+    ghost next_gives = { HandsOut };
+
+    ghost remaining = { item_count fields_left };
+
     // The next field with the tag, or None if there is none left.
-    pub fn next(&mut self) -> Option<Field<'a>>
-        ensures bytes { self.new.reader.bytes.now ≡ self.old.reader.bytes.now }
-        ensures tag { self.new.tag ≡ self.old.tag }
-        ensures answer { NextOf self.old.reader.bytes.now self.old.tag self.old.reader.at result self.new.reader.at }
-    {
-        while let Ok(next) = self.reader.next() {
-            let Some(field) = next else {
-                return None;
-            };
+    fn next(&mut self) -> Option<Field<'a>> {
+        while let Some(field) = self.reader.next().ok()? {
             if field.tag == self.tag {
                 return Some(field);
             }

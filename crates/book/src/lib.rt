@@ -5,6 +5,8 @@ pub mod book;
 pub mod fault;
 pub mod field;
 pub mod fields;
+mod offsets;
+pub mod places;
 pub mod reader;
 pub mod shape;
 pub mod side;

@@ -1,7 +1,6 @@
 // A reader over lent bytes: it hands out fields as parts of them.
-ghost use Rattle.std.specs.Prelude.{◌≡◌, ◌≤◌, length, MatchOption, MatchResult};
-ghost use Rattle.book.specs.Questions.{FieldRead, AtEnd, NotRead};
-ghost use Rattle.book.specs.Views.{meant};
+ghost use Rattle.std.specs.Prelude.{◌≡◌, ◌≤◌, length};
+ghost use Rattle.book.specs.Views.{ReaderGives};
 
 use crate::fault::Fault;
 use crate::field::Field;
@@ -36,29 +35,25 @@ impl<'a> Reader<'a> {
     // The next field, or None at the end. Where what is left is no whole field, it is refused and the reader stays.
     pub fn next(&mut self) -> Result<Option<Field<'a>>, Fault>
         ensures bytes { self.new.bytes.now ≡ self.old.bytes.now }
-        ensures answer { MatchResult result
-            (λ o. MatchOption o
-            (AtEnd self.old.bytes.now self.old.at self.new.at)
-            (λ f. FieldRead self.old.bytes.now self.old.at f.offset (meant f) self.new.at))
-            (λ e. NotRead self.old.bytes.now self.old.at e self.new.at) }
+        ensures answer { ReaderGives self.old.bytes.now self.old.at result self.new.at }
     {
         let offset = self.at;
-        let left = self.bytes.len() - offset;
-        if left == 0 {
+        let rest = &self.bytes[offset..];
+        if rest.is_empty() {
             return Ok(None);
         }
-        if left < HEADER {
+        let [tag, high, low, behind @ ..] = rest else {
             return Err(Fault::NotWhole(offset));
-        }
-        let length = 256 * self.bytes[offset + 1] as usize + self.bytes[offset + 2] as usize;
-        if left - HEADER < length {
+        };
+        let length = u16::from_be_bytes([*high, *low]) as usize;
+        let Some(value) = behind.get(..length) else {
             return Err(Fault::NotWhole(offset));
-        }
-        let tag = self.bytes[offset];
-        let start = offset + HEADER;
-        let end = start + length;
-        let value = &self.bytes[start..end];
-        self.at = end;
-        Ok(Some(Field { offset, tag, value }))
+        };
+        self.at = offset + HEADER + length;
+        Ok(Some(Field {
+            offset,
+            tag: *tag,
+            value,
+        }))
     }
 }

@@ -1,16 +1,49 @@
 // Which lengths a value may have, by its tag.
-ghost use Rattle.std.specs.Prelude.{◌≡◌, ◌<◌, IfSome, Decides};
+ghost use Rattle.std.specs.Prelude.{◌≡◌, ◌<◌, Some, None, Decides, MatchResult};
 ghost use Rattle.book.specs.Format.{shape_of, FitsShape};
+ghost use Rattle.book.specs.Tags.{tag_number};
 
-pub const SYMBOL: u8 = 1;
+// A number that is no tag of the format.
+#[derive(Clone, Copy, PartialEq, Eq, Debug)]
+pub struct NoTag;
 
-pub const RULE: u8 = 2;
+// The tags of fields.
+#[derive(Clone, Copy, PartialEq, Eq, Debug)]
+pub enum Tag {
+    Symbol = 1,
+    Rule = 2,
+    Polynomial = 3,
+    Rank = 4,
+    Joining = 5,
+}
 
-pub const POLYNOMIAL: u8 = 3;
+pub const SYMBOL: u8 = Tag::Symbol as u8;
 
-pub const RANK: u8 = 4;
+pub const RULE: u8 = Tag::Rule as u8;
 
-pub const JOINING: u8 = 5;
+pub const POLYNOMIAL: u8 = Tag::Polynomial as u8;
+
+pub const RANK: u8 = Tag::Rank as u8;
+
+pub const JOINING: u8 = Tag::Joining as u8;
+
+impl TryFrom<u8> for Tag {
+    // The format has no such tag.
+    type Error = NoTag;
+
+    ghost try_from_gives = { λ n r. MatchResult r (λ tag. tag_number tag ≡ n) (λ _. shape_of n ≡ None) };
+
+    fn try_from(tag: u8) -> Result<Tag, NoTag> {
+        match tag {
+            SYMBOL => Ok(Tag::Symbol),
+            RULE => Ok(Tag::Rule),
+            POLYNOMIAL => Ok(Tag::Polynomial),
+            RANK => Ok(Tag::Rank),
+            JOINING => Ok(Tag::Joining),
+            _ => Err(NoTag),
+        }
+    }
+}
 
 // From the least length to the most, in steps.
 #[derive(Clone, Copy)]
@@ -21,17 +54,16 @@ pub(crate) struct Shape {
 }
 
 impl Shape {
-    // The shape of the values of a tag, or None if the format has no such tag.
-    pub(crate) fn of(tag: u8) -> Option<Shape>
-        ensures value { result ≡ shape_of tag }
-        ensures steps { IfSome result (λ s. 0 < s.step) }
+    // The shape of the values of a tag.
+    pub(crate) fn of(tag: Tag) -> Shape
+        ensures value { shape_of (tag_number tag) ≡ Some result }
+        ensures steps { 0 < result.step }
     {
         match tag {
-            SYMBOL | RANK => Some(Shape::between(2, 2, 1)),
-            RULE => Some(Shape::between(3, 65, 1)),
-            POLYNOMIAL => Some(Shape::between(8, 57, 7)),
-            JOINING => Some(Shape::between(4, 260, 1)),
-            _ => None,
+            Tag::Symbol | Tag::Rank => Shape::between(2, 2, 1),
+            Tag::Rule => Shape::between(3, 65, 1),
+            Tag::Polynomial => Shape::between(8, 57, 7),
+            Tag::Joining => Shape::between(4, 260, 1),
         }
     }
 

@@ -1,24 +1,24 @@
 // What is kept of a book beside its lent bytes, and how one field more is asked about and entered.
-ghost use Rattle.std.specs.Prelude.{◌≡◌, ℕ, ◌+◌, ◌<◌, ◌≤◌, List, [], ◌∷◌, ◌++◌, length, Some, Decides, MatchResult};
+ghost use Rattle.std.specs.Prelude.{◌≡◌, ◌+◌, ◌<◌, ◌≤◌, List, [], ◌∷◌, ◌++◌, length, Some, Decides, MatchResult};
 ghost use Rattle.terms.specs.Question.{AllYes, FirstNo};
-ghost use Rattle.book.specs.Format.{BookField, book_bytes};
+ghost use Rattle.book.specs.Format.{BookField};
+ghost use Rattle.book.specs.Tags.{tag_number};
 ghost use Rattle.book.specs.Faults.{number_of, offset_of};
-ghost use Rattle.book.specs.Questions.{TagKnown, LengthFits, SymbolFits, SidesFit, RoomForRule, field_questions, FieldRead};
+ghost use Rattle.book.specs.Questions.{TagKnown, LengthFits, SymbolFits, SidesFit, RoomForRule, field_questions};
 ghost use Rattle.book.specs.Meaning.{signature};
-ghost use Rattle.book.specs.Tables.{Laid, RuleRefused};
+ghost use Rattle.book.specs.Tables.{RuleRefused, StandsNext, TablesOf, kept_signature};
 ghost use Rattle.book.specs.Views.{meant};
-ghost use Rattle.book.specs.Kept.{TablesOf, kept_signature};
 
 use crate::fault::Fault;
 use crate::field::Field;
-use crate::shape::{RULE, SYMBOL, Shape};
+use crate::offsets::Offsets;
+use crate::places::Places;
+use crate::shape::{Shape, Tag};
 use crate::side::is_side;
 use terms::prefix::Signature;
 
-const RULE_LIMIT: usize = 32;
-
-// No byte of a book stands there.
-const NOWHERE: u16 = 4096;
+// The most arguments of a symbol.
+const ARITY_LIMIT: u8 = 3;
 
 // A symbol's arity stands so many bytes behind the beginning of its field.
 const ARITY_AT: usize = 4;
@@ -27,40 +27,33 @@ const ARITY_AT: usize = 4;
 #[derive(Clone, Copy)]
 pub(crate) struct Tables<'a> {
     pub(crate) bytes: &'a [u8],
-    pub(crate) arities: [u16; 128],
+    pub(crate) arities: Places,
     pub(crate) symbols: usize,
-    pub(crate) rules: [u16; 32],
-    pub(crate) count: usize,
+    pub(crate) rules: Offsets,
 }
 
 impl<'a> Signature for Tables<'a> {
     ghost arities = { kept_signature };
 
     fn arity(&self, code: u8) -> Option<u8> {
-        if code >= 128 {
-            return None;
-        }
-        let place = self.arities[code as usize] as usize;
-        if place >= self.bytes.len() {
-            return None;
-        }
-        Some(self.bytes[place])
+        let place = self.arities.get(code)?;
+        self.bytes.get(place).copied()
     }
 }
 
-// Asks whether the tag is known, and whether the value's length fits it.
-fn ask_shape(field: &Field) -> Result<(), Fault>
+// The field's tag, if it is known and the value's length fits it.
+fn known_tag(field: &Field) -> Result<Tag, Fault>
     ensures { MatchResult result
-        (λ _. TagKnown (meant field.now) × LengthFits (meant field.now))
+        (λ tag. (tag_number tag ≡ field.now.tag) × TagKnown (meant field.now) × LengthFits (meant field.now))
         (λ e. (offset_of e ≡ Some field.now.offset) × ((before : List BookField) → FirstNo (field_questions before (meant field.now)) (number_of e))) }
 {
-    let Some(shape) = Shape::of(field.tag) else {
+    let Ok(tag) = Tag::try_from(field.tag) else {
         return Err(Fault::UnknownTag(field.offset));
     };
-    if !shape.fits(field.value.len()) {
+    if !Shape::of(tag).fits(field.value.len()) {
         return Err(Fault::WrongLength(field.offset));
     }
-    Ok(())
+    Ok(tag)
 }
 
 impl<'a> Tables<'a> {
@@ -71,10 +64,9 @@ impl<'a> Tables<'a> {
     {
         Tables {
             bytes,
-            arities: [NOWHERE; 128],
+            arities: Places::new(),
             symbols: 0,
-            rules: [0; 32],
-            count: 0,
+            rules: Offsets::new(),
         }
     }
 
@@ -95,9 +87,7 @@ impl<'a> Tables<'a> {
         requires few { self.old.symbols ≤ 4096 }
         ensures bytes { self.new.bytes ≡ self.old.bytes }
         ensures answer { (before : List BookField)
-            → Laid self.old.bytes.now before
-            → TablesOf self.old before
-            → field.now.offset ≡ length (book_bytes before)
+            → StandsNext self.old before field.now
             → field.now.tag ≡ 1
             → MatchResult result
             (λ _. SymbolFits before (meant field.now)
@@ -107,13 +97,12 @@ impl<'a> Tables<'a> {
         let code = field.value[0];
         let arity = field.value[1];
         let fault = Fault::BadSymbol(field.offset);
-        if code == 0 || code >= 128 || arity > 3 {
+        if code == 0 || arity > ARITY_LIMIT {
             return Err(fault);
         }
-        if self.arity(code).is_some() {
+        if !self.arities.enter(code, (field.offset + ARITY_AT) as u16) {
             return Err(fault);
         }
-        self.arities[code as usize] = (field.offset + ARITY_AT) as u16;
         self.symbols += 1;
         Ok(())
     }
@@ -123,9 +112,7 @@ impl<'a> Tables<'a> {
         requires inside { field.now.offset ≤ 4096 }
         ensures bytes { self.new.bytes ≡ self.old.bytes }
         ensures answer { (before : List BookField)
-            → Laid self.old.bytes.now before
-            → TablesOf self.old before
-            → field.now.offset ≡ length (book_bytes before)
+            → StandsNext self.old before field.now
             → field.now.tag ≡ 2
             → MatchResult result
             (λ _. SidesFit (signature before) (meant field.now)
@@ -137,11 +124,9 @@ impl<'a> Tables<'a> {
         if !self.has_sides(field) {
             return Err(Fault::BadRule(field.offset));
         }
-        if self.count >= RULE_LIMIT {
+        if !self.rules.push(field.offset as u16) {
             return Err(Fault::TooManyRules(field.offset));
         }
-        self.rules[self.count] = field.offset as u16;
-        self.count += 1;
         Ok(())
     }
 
@@ -151,20 +136,15 @@ impl<'a> Tables<'a> {
         requires few { self.old.symbols ≤ 4096 }
         ensures bytes { self.new.bytes ≡ self.old.bytes }
         ensures answer { (before : List BookField)
-            → Laid self.old.bytes.now before
-            → TablesOf self.old before
-            → field.now.offset ≡ length (book_bytes before)
+            → StandsNext self.old before field.now
             → MatchResult result
             (λ _. AllYes (field_questions before (meant field.now)) × TablesOf self.new (before ++ meant field.now ∷ []))
             (λ e. (offset_of e ≡ Some field.now.offset) × FirstNo (field_questions before (meant field.now)) (number_of e)) }
     {
-        ask_shape(field)?;
-        if field.tag == SYMBOL {
-            return self.enter_symbol(field);
+        match known_tag(field)? {
+            Tag::Symbol => self.enter_symbol(field),
+            Tag::Rule => self.enter_rule(field),
+            Tag::Polynomial | Tag::Rank | Tag::Joining => Ok(()),
         }
-        if field.tag == RULE {
-            return self.enter_rule(field);
-        }
-        Ok(())
     }
 }

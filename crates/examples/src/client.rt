@@ -1,37 +1,61 @@
 // A small client of the judge.
+use judge::fault::{NextFault, SettleFault, ShowFault};
 use judge::judge::Judge;
-use judge::ticket::Ticket;
 
-// Settles the ticket. Gives the number of a refusal, and 0 if there is none.
-fn settled(judge: &mut Judge, ticket: Ticket) -> u8 {
-    match judge.settle(ticket) {
-        Ok(()) => 0,
-        Err(fault) => fault.number(),
+// Which call of the client was refused, and why.
+#[derive(Clone, Copy, PartialEq, Eq, Debug)]
+pub(crate) enum Refusal {
+    Next(NextFault),
+    Show(ShowFault),
+    Settle(SettleFault),
+}
+
+impl From<NextFault> for Refusal {
+    fn from(fault: NextFault) -> Refusal {
+        Refusal::Next(fault)
     }
 }
 
-// Opens the next overlap and settles it unshown. Gives the number of a refusal, and 0 if there is none.
-pub(crate) fn settle_next(judge: &mut Judge) -> u8 {
-    match judge.next() {
-        Ok(ticket) => settled(judge, ticket),
-        Err(fault) => fault.number(),
+impl From<ShowFault> for Refusal {
+    fn from(fault: ShowFault) -> Refusal {
+        Refusal::Show(fault)
     }
 }
 
-// Opens the next overlap, shows that its sides join by these steps, and settles it. Gives the number of a refusal, and 0 if there is none.
-pub(crate) fn join_next(judge: &mut Judge, outer: &[u8], inner: &[u8], page: &mut [u8]) -> u8 {
-    match judge.next() {
-        Ok(ticket) => {
-            let number = match judge.show(&ticket, outer, inner, page) {
-                Ok(()) => 0,
-                Err(fault) => fault.number(),
-            };
-            if settled(judge, ticket) == 0 {
-                number
-            } else {
-                255
-            }
+impl From<SettleFault> for Refusal {
+    fn from(fault: SettleFault) -> Refusal {
+        Refusal::Settle(fault)
+    }
+}
+
+impl Refusal {
+    // The number of the question that says no.
+    pub(crate) fn number(&self) -> u8 {
+        match self {
+            Refusal::Next(fault) => fault.number(),
+            Refusal::Show(fault) => fault.number(),
+            Refusal::Settle(fault) => fault.number(),
         }
-        Err(fault) => fault.number(),
     }
+}
+
+// Opens the next overlap and settles it unshown.
+pub(crate) fn settle_next(judge: &mut Judge) -> Result<(), Refusal> {
+    let ticket = judge.next()?;
+    judge.settle(ticket)?;
+    Ok(())
+}
+
+// Opens the next overlap, shows that its sides join by these steps, and settles it, shown or not.
+pub(crate) fn join_next(
+    judge: &mut Judge,
+    outer: &[u8],
+    inner: &[u8],
+    page: &mut [u8],
+) -> Result<(), Refusal> {
+    let ticket = judge.next()?;
+    let shown = judge.show(&ticket, outer, inner, page);
+    judge.settle(ticket)?;
+    shown?;
+    Ok(())
 }

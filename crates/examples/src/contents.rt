@@ -8,10 +8,6 @@ use terms::prefix::{Signature, first_term_length, is_term, part_at};
 const BOOK: &[u8] =
     b"\x01\x00\x02\x01\x00\x01\x00\x02\x02\x01\x02\x00\x06\x03\x02\x02\x80\x02\x80\x04\x00\x02\x01\x05\x01\x00\x02\x04\x02\x02\x00\x05\x03\x04\x80\x01\x80\x04\x00\x02\x02\x06\x04\x00\x02\x04\x07";
 
-fn same(a: &[u8], b: &[u8]) -> bool {
-    a == b
-}
-
 #[test]
 fn arities_and_rules(rt: HostRuntime) -> Result<(), Fail> {
     let mut book = Book::empty();
@@ -26,32 +22,30 @@ fn arities_and_rules(rt: HostRuntime) -> Result<(), Fail> {
     assert_eq!(rt; book.arity(0xFF), None);
     assert_eq!(rt; book.rule_count(), 2);
     assert!(rt; book.sides(2).is_none());
-    match book.sides(1) {
-        Some(sides) => {
-            assert!(rt; same(sides.left, b"\x04\x80\x01"));
-            assert!(rt; same(sides.right, b"\x80"));
-            Ok(())
-        }
-        None => Err(Fail::new("the second rule")),
-    }
+    let Some(sides) = book.sides(1) else {
+        return Err(Fail::new("the second rule"));
+    };
+    assert!(rt; sides.left == b"\x04\x80\x01".as_slice());
+    assert!(rt; sides.right == b"\x80".as_slice());
+    Ok(())
 }
 
 #[test]
-fn fields_of_a_tag(rt: HostRuntime) {
+fn fields_of_a_tag(rt: HostRuntime) -> Result<(), Fail> {
     let mut book = Book::empty();
     assert!(rt; book.read(BOOK).is_ok());
     let mut ranks = book.fields(RANK);
-    let mut offsets = [0usize; 3];
-    for offset in offsets.iter_mut() {
-        if let Some(field) = ranks.next() {
-            assert!(rt; field.value.len() == 2);
-            *offset = field.offset;
-        }
+    for offset in [19, 37, 42] {
+        let Some(field) = ranks.next() else {
+            return Err(Fail::new("a rank"));
+        };
+        assert_eq!(rt; field.value.len(), 2);
+        assert_eq!(rt; field.offset, offset);
     }
-    assert_eq!(rt; offsets, [19, 37, 42]);
     assert!(rt; ranks.next().is_none());
     let mut joinings = book.fields(JOINING);
     assert!(rt; joinings.next().is_none());
+    Ok(())
 }
 
 #[test]
@@ -69,10 +63,10 @@ fn terms_over_the_symbols(rt: HostRuntime) -> Result<(), Fail> {
     assert!(rt; is_term(&book, 8, b"\x87"));
     assert!(rt; !is_term(&book, 8, b"\x88"));
     assert!(rt; !is_term(&book, 4, b"\x84"));
-    match part_at(&book, 8, &bytes[0..4], 1) {
-        Some(part) => assert!(rt; same(part, b"\x02\x80")),
-        None => return Err(Fail::new("the part at 1")),
-    }
+    let Some(part) = part_at(&book, 8, &bytes[0..4], 1) else {
+        return Err(Fail::new("the part at 1"));
+    };
+    assert!(rt; part == b"\x02\x80".as_slice());
     assert!(rt; part_at(&book, 8, &bytes[0..4], 4).is_none());
     Ok(())
 }

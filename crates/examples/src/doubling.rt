@@ -17,13 +17,10 @@ impl Symbols for Doubling {
     ghost proper = { λ s. doubling_proper };
 
     fn arity(&self, code: u8) -> Option<u8> {
-        if code == 2 {
-            return Some(1);
+        match code {
+            2 | 3 => Some(1),
+            _ => None,
         }
-        if code == 3 {
-            return Some(1);
-        }
-        None
     }
 
     fn monomials(&self, code: u8) -> &[u8] {

@@ -2,6 +2,7 @@
 use book::book::Book;
 use judge::judge::Judge;
 use judge::orient_fault::OrientFault;
+use orders::book_order::{BookOrder, FigureFault};
 use orders::fence::Fence;
 use orders::order::Order;
 use orders::path::Path;
@@ -26,65 +27,78 @@ const JUST_FITS: &[u8] =
 const TOO_LARGE: &[u8] =
     b"\x01\x00\x02\x01\x00\x01\x00\x02\x02\x01\x03\x00\x08\x01\x00\x00\x00\x01\x00\x00\x00\x03\x00\x08\x02\x00\x00\xB5\x05\x01\x00\x00";
 
-// The grade by the book's polynomials, or 255 if it gives no order.
-fn by_polynomials(bytes: &[u8], left: &[u8], right: &[u8]) -> u8 {
+// The order that the book gives, or None if it gives none.
+fn order_of<'a, O: BookOrder<'a>>(bytes: &'a [u8]) -> Option<O> {
     let mut book = Book::empty();
-    if book.read(bytes).is_err() {
-        return 255;
-    }
-    let mut order = Polynomial::empty();
-    if order.make(&book).is_err() {
-        return 255;
-    }
-    order.weigh(left, right)
+    book.read(bytes).ok()?;
+    let mut order = O::empty();
+    order.make(&book).ok()?;
+    Some(order)
 }
 
-// The grade by the book's ranks, or 255 if it gives no order.
-fn by_ranks(bytes: &[u8], left: &[u8], right: &[u8]) -> u8 {
-    let mut book = Book::empty();
-    if book.read(bytes).is_err() {
-        return 255;
-    }
-    let mut order = Path::empty();
-    if order.make(&book).is_err() {
-        return 255;
-    }
-    order.weigh(left, right)
+// The grade by the order that the book gives, or None if it gives none.
+fn grade_by<'a, O: BookOrder<'a>>(bytes: &'a [u8], left: &[u8], right: &[u8]) -> Option<u8> {
+    let order: O = order_of(bytes)?;
+    Some(order.weigh(left, right))
 }
 
 #[test]
 fn polynomials_grade(rt: HostRuntime) {
     assert_eq!(rt;
-        by_polynomials(DOUBLING, b"\x02\x02\x80", b"\x03\x03\x80"),
-        0
+        grade_by::<Polynomial>(DOUBLING, b"\x02\x02\x80", b"\x03\x03\x80"),
+        Some(0)
     );
     assert_eq!(rt;
-        by_polynomials(DOUBLING, b"\x03\x03\x02\x80", b"\x02\x03\x03\x80"),
-        0
+        grade_by::<Polynomial>(DOUBLING, b"\x03\x03\x02\x80", b"\x02\x03\x03\x80"),
+        Some(0)
     );
-    assert_eq!(rt; by_polynomials(CUBING, b"\x02\x80", b"\x80"), 1);
-    assert_eq!(rt; by_polynomials(CUBING, b"\x02\x02\x80", b"\x80"), 3);
-    assert_eq!(rt; by_polynomials(JUST_FITS, b"\x02\x02\x01", b"\x01"), 0);
-    assert_eq!(rt; by_polynomials(TOO_LARGE, b"\x02\x02\x01", b"\x01"), 2);
+    assert_eq!(rt;
+        grade_by::<Polynomial>(CUBING, b"\x02\x80", b"\x80"),
+        Some(1)
+    );
+    assert_eq!(rt;
+        grade_by::<Polynomial>(CUBING, b"\x02\x02\x80", b"\x80"),
+        Some(3)
+    );
+    assert_eq!(rt;
+        grade_by::<Polynomial>(JUST_FITS, b"\x02\x02\x01", b"\x01"),
+        Some(0)
+    );
+    assert_eq!(rt;
+        grade_by::<Polynomial>(TOO_LARGE, b"\x02\x02\x01", b"\x01"),
+        Some(2)
+    );
     // no term, an undeclared symbol, a variable too many, no byte
-    assert_eq!(rt; by_polynomials(DOUBLING, b"\x02", b"\x80"), 8);
-    assert_eq!(rt; by_polynomials(DOUBLING, b"\x02\x80", b"\x01"), 8);
-    assert_eq!(rt; by_polynomials(DOUBLING, b"\x02\x84", b"\x80"), 8);
-    assert_eq!(rt; by_polynomials(DOUBLING, b"", b"\x80"), 8);
+    assert_eq!(rt; grade_by::<Polynomial>(DOUBLING, b"\x02", b"\x80"), Some(8));
+    assert_eq!(rt;
+        grade_by::<Polynomial>(DOUBLING, b"\x02\x80", b"\x01"),
+        Some(8)
+    );
+    assert_eq!(rt;
+        grade_by::<Polynomial>(DOUBLING, b"\x02\x84", b"\x80"),
+        Some(8)
+    );
+    assert_eq!(rt; grade_by::<Polynomial>(DOUBLING, b"", b"\x80"), Some(8));
 }
 
 #[test]
 fn ranks_grade(rt: HostRuntime) {
-    assert_eq!(rt; by_ranks(RANKED, b"\x02\x02\x80", b"\x03\x03\x80"), 0);
     assert_eq!(rt;
-        by_ranks(RANKED, b"\x03\x03\x02\x80", b"\x02\x03\x03\x80"),
-        1
+        grade_by::<Path>(RANKED, b"\x02\x02\x80", b"\x03\x03\x80"),
+        Some(0)
     );
-    assert_eq!(rt; by_ranks(RANKED, b"\x02\x02\x80", b"\x02\x03\x02\x80"), 1);
-    assert_eq!(rt; by_ranks(RANKED, b"\x02\x80", b"\x80"), 0);
-    assert_eq!(rt; by_ranks(RANKED, b"\x80", b"\x80"), 1);
-    assert_eq!(rt; by_ranks(RANKED, b"\x02\x80", b"\x81"), 1);
-    assert_eq!(rt; by_ranks(RANKED, b"\x02\x80\x80", b"\x80"), 8);
+    assert_eq!(rt;
+        grade_by::<Path>(RANKED, b"\x03\x03\x02\x80", b"\x02\x03\x03\x80"),
+        Some(1)
+    );
+    assert_eq!(rt;
+        grade_by::<Path>(RANKED, b"\x02\x02\x80", b"\x02\x03\x02\x80"),
+        Some(1)
+    );
+    assert_eq!(rt; grade_by::<Path>(RANKED, b"\x02\x80", b"\x80"), Some(0));
+    assert_eq!(rt; grade_by::<Path>(RANKED, b"\x80", b"\x80"), Some(1));
+    assert_eq!(rt; grade_by::<Path>(RANKED, b"\x02\x80", b"\x81"), Some(1));
+    assert_eq!(rt; grade_by::<Path>(RANKED, b"\x02\x80\x80", b"\x80"), Some(8));
 }
 
 #[test]
@@ -103,168 +117,168 @@ fn the_fence_grades(rt: HostRuntime) {
     assert_eq!(rt; fence.arity(4), None);
 }
 
-// Number and offset of a refusal, and 0 for a book that gives an order.
-fn making_polynomials(bytes: &[u8]) -> (u8, usize) {
+// The number and the offset of the question that says no to the book's order, or None if it gives one.
+fn refusal<'a, O: BookOrder<'a>>(rt: &impl Abort, bytes: &'a [u8]) -> Option<(u8, usize)> {
     let mut book = Book::empty();
-    if book.read(bytes).is_err() {
-        return (255, 0);
-    }
-    let mut order = Polynomial::empty();
+    assert!(rt; book.read(bytes).is_ok());
+    let mut order = O::empty();
     match order.make(&book) {
-        Ok(()) => (0, 0),
-        Err(fault) => (fault.number(), fault.offset()),
+        Ok(()) => None,
+        Err(fault) => Some((fault.number(), fault.offset())),
     }
-}
-
-fn making_ranks(bytes: &[u8]) -> (u8, usize) {
-    let mut book = Book::empty();
-    if book.read(bytes).is_err() {
-        return (255, 0);
-    }
-    let mut order = Path::empty();
-    match order.make(&book) {
-        Ok(()) => (0, 0),
-        Err(fault) => (fault.number(), fault.offset()),
-    }
-}
-
-fn check_polynomials(rt: &impl Abort, bytes: &[u8], number: u8, offset: usize) {
-    let (n, at) = making_polynomials(bytes);
-    assert_eq!(rt; n, number);
-    assert_eq!(rt; at, offset);
-}
-
-fn check_ranks(rt: &impl Abort, bytes: &[u8], number: u8, offset: usize) {
-    let (n, at) = making_ranks(bytes);
-    assert_eq!(rt; n, number);
-    assert_eq!(rt; at, offset);
 }
 
 #[test]
 fn fields_of_polynomials(rt: HostRuntime) {
-    check_polynomials(&rt, b"", 0, 0);
-    check_polynomials(&rt, DOUBLING, 0, 0);
+    assert_eq!(rt; refusal::<Polynomial>(&rt, b""), None);
+    assert_eq!(rt; refusal::<Polynomial>(&rt, DOUBLING), None);
     // the polynomial stands before its symbol
-    check_polynomials(
-        &rt,
-        b"\x03\x00\x08\x02\x00\x00\x00\x01\x01\x00\x00\x01\x00\x02\x02\x01",
-        0,
-        0,
+    assert_eq!(rt;
+        refusal::<Polynomial>(
+            &rt,
+            b"\x03\x00\x08\x02\x00\x00\x00\x01\x01\x00\x00\x01\x00\x02\x02\x01"
+        ),
+        None
     );
     // 8: not declared; for the second time
-    check_polynomials(
-        &rt,
-        b"\x01\x00\x02\x02\x01\x03\x00\x08\x03\x00\x00\x00\x01\x01\x00\x00",
-        8,
-        5,
+    assert_eq!(rt;
+        refusal::<Polynomial>(
+            &rt,
+            b"\x01\x00\x02\x02\x01\x03\x00\x08\x03\x00\x00\x00\x01\x01\x00\x00"
+        ),
+        Some((8, 5))
     );
-    check_polynomials(
-        &rt,
-        b"\x01\x00\x02\x02\x01\x03\x00\x08\x02\x00\x00\x00\x01\x01\x00\x00\x03\x00\x08\x02\x00\x00\x00\x01\x01\x00\x00",
-        8,
-        16,
+    assert_eq!(rt;
+        refusal::<Polynomial>(
+            &rt,
+            b"\x01\x00\x02\x02\x01\x03\x00\x08\x02\x00\x00\x00\x01\x01\x00\x00\x03\x00\x08\x02\x00\x00\x00\x01\x01\x00\x00"
+        ),
+        Some((8, 16))
     );
     // 11: a symbol without one
-    check_polynomials(&rt, b"\x01\x00\x02\x02\x01", 11, 0);
-    check_polynomials(
-        &rt,
-        b"\x01\x00\x02\x02\x01\x01\x00\x02\x03\x01\x03\x00\x08\x02\x00\x00\x00\x01\x01\x00\x00",
-        11,
-        5,
+    assert_eq!(rt;
+        refusal::<Polynomial>(&rt, b"\x01\x00\x02\x02\x01"),
+        Some((11, 0))
+    );
+    assert_eq!(rt;
+        refusal::<Polynomial>(
+            &rt,
+            b"\x01\x00\x02\x02\x01\x01\x00\x02\x03\x01\x03\x00\x08\x02\x00\x00\x00\x01\x01\x00\x00"
+        ),
+        Some((11, 5))
     );
 }
 
 #[test]
 fn monomials_of_polynomials(rt: HostRuntime) {
     // 9: the coefficient is 0, is 65,535, is 65,536
-    check_polynomials(
-        &rt,
-        b"\x01\x00\x02\x02\x01\x03\x00\x08\x02\x00\x00\x00\x00\x01\x00\x00",
-        9,
-        5,
+    assert_eq!(rt;
+        refusal::<Polynomial>(
+            &rt,
+            b"\x01\x00\x02\x02\x01\x03\x00\x08\x02\x00\x00\x00\x00\x01\x00\x00"
+        ),
+        Some((9, 5))
     );
-    check_polynomials(
-        &rt,
-        b"\x01\x00\x02\x02\x01\x03\x00\x08\x02\x00\x00\xFF\xFF\x01\x00\x00",
-        0,
-        0,
+    assert_eq!(rt;
+        refusal::<Polynomial>(
+            &rt,
+            b"\x01\x00\x02\x02\x01\x03\x00\x08\x02\x00\x00\xFF\xFF\x01\x00\x00"
+        ),
+        None
     );
-    check_polynomials(
-        &rt,
-        b"\x01\x00\x02\x02\x01\x03\x00\x08\x02\x00\x01\x00\x00\x01\x00\x00",
-        9,
-        5,
+    assert_eq!(rt;
+        refusal::<Polynomial>(
+            &rt,
+            b"\x01\x00\x02\x02\x01\x03\x00\x08\x02\x00\x01\x00\x00\x01\x00\x00"
+        ),
+        Some((9, 5))
     );
     // an exponent is 4, or stands past the arity, or the exponents come again
-    check_polynomials(
-        &rt,
-        b"\x01\x00\x02\x02\x01\x03\x00\x08\x02\x00\x00\x00\x01\x04\x00\x00",
-        9,
-        5,
+    assert_eq!(rt;
+        refusal::<Polynomial>(
+            &rt,
+            b"\x01\x00\x02\x02\x01\x03\x00\x08\x02\x00\x00\x00\x01\x04\x00\x00"
+        ),
+        Some((9, 5))
     );
-    check_polynomials(
-        &rt,
-        b"\x01\x00\x02\x02\x01\x03\x00\x08\x02\x00\x00\x00\x01\x01\x01\x00",
-        9,
-        5,
+    assert_eq!(rt;
+        refusal::<Polynomial>(
+            &rt,
+            b"\x01\x00\x02\x02\x01\x03\x00\x08\x02\x00\x00\x00\x01\x01\x01\x00"
+        ),
+        Some((9, 5))
     );
-    check_polynomials(
-        &rt,
-        b"\x01\x00\x02\x02\x01\x03\x00\x0F\x02\x00\x00\x00\x01\x01\x00\x00\x00\x00\x00\x02\x01\x00\x00",
-        9,
-        5,
+    assert_eq!(rt;
+        refusal::<Polynomial>(
+            &rt,
+            b"\x01\x00\x02\x02\x01\x03\x00\x0F\x02\x00\x00\x00\x01\x01\x00\x00\x00\x00\x00\x02\x01\x00\x00"
+        ),
+        Some((9, 5))
     );
     // 10: f lacks its argument; h has its first only; then both
-    check_polynomials(
-        &rt,
-        b"\x01\x00\x02\x02\x01\x03\x00\x08\x02\x00\x00\x00\x01\x00\x00\x00",
-        10,
-        5,
+    assert_eq!(rt;
+        refusal::<Polynomial>(
+            &rt,
+            b"\x01\x00\x02\x02\x01\x03\x00\x08\x02\x00\x00\x00\x01\x00\x00\x00"
+        ),
+        Some((10, 5))
     );
-    check_polynomials(
-        &rt,
-        b"\x01\x00\x02\x04\x02\x03\x00\x08\x04\x00\x00\x00\x01\x01\x00\x00",
-        10,
-        5,
+    assert_eq!(rt;
+        refusal::<Polynomial>(
+            &rt,
+            b"\x01\x00\x02\x04\x02\x03\x00\x08\x04\x00\x00\x00\x01\x01\x00\x00"
+        ),
+        Some((10, 5))
     );
-    check_polynomials(
-        &rt,
-        b"\x01\x00\x02\x04\x02\x03\x00\x08\x04\x00\x00\x00\x01\x01\x01\x00",
-        0,
-        0,
+    assert_eq!(rt;
+        refusal::<Polynomial>(
+            &rt,
+            b"\x01\x00\x02\x04\x02\x03\x00\x08\x04\x00\x00\x00\x01\x01\x01\x00"
+        ),
+        None
     );
     // the first field's 10 comes before the second field's 8
-    check_polynomials(
-        &rt,
-        b"\x01\x00\x02\x02\x01\x03\x00\x08\x02\x00\x00\x00\x01\x00\x00\x00\x03\x00\x08\x05\x00\x00\x00\x01\x01\x00\x00",
-        10,
-        5,
+    assert_eq!(rt;
+        refusal::<Polynomial>(
+            &rt,
+            b"\x01\x00\x02\x02\x01\x03\x00\x08\x02\x00\x00\x00\x01\x00\x00\x00\x03\x00\x08\x05\x00\x00\x00\x01\x01\x00\x00"
+        ),
+        Some((10, 5))
     );
 }
 
 #[test]
 fn fields_of_ranks(rt: HostRuntime) {
-    check_ranks(&rt, b"", 0, 0);
-    check_ranks(&rt, RANKED, 0, 0);
-    check_ranks(&rt, b"\x04\x00\x02\x02\x00\x01\x00\x02\x02\x01", 0, 0);
-    check_ranks(&rt, b"\x01\x00\x02\x02\x01\x04\x00\x02\x03\x01", 12, 5);
-    check_ranks(
-        &rt,
-        b"\x01\x00\x02\x02\x01\x04\x00\x02\x02\x01\x04\x00\x02\x02\x01",
-        12,
-        10,
+    assert_eq!(rt; refusal::<Path>(&rt, b""), None);
+    assert_eq!(rt; refusal::<Path>(&rt, RANKED), None);
+    assert_eq!(rt;
+        refusal::<Path>(&rt, b"\x04\x00\x02\x02\x00\x01\x00\x02\x02\x01"),
+        None
     );
-    check_ranks(
-        &rt,
-        b"\x01\x00\x02\x02\x01\x01\x00\x02\x03\x01\x04\x00\x02\x03\x01",
-        13,
-        0,
+    assert_eq!(rt;
+        refusal::<Path>(&rt, b"\x01\x00\x02\x02\x01\x04\x00\x02\x03\x01"),
+        Some((12, 5))
     );
-    check_ranks(
-        &rt,
-        b"\x01\x00\x02\x02\x01\x01\x00\x02\x03\x01\x04\x00\x02\x02\x01",
-        13,
-        5,
+    assert_eq!(rt;
+        refusal::<Path>(
+            &rt,
+            b"\x01\x00\x02\x02\x01\x04\x00\x02\x02\x01\x04\x00\x02\x02\x01"
+        ),
+        Some((12, 10))
+    );
+    assert_eq!(rt;
+        refusal::<Path>(
+            &rt,
+            b"\x01\x00\x02\x02\x01\x01\x00\x02\x03\x01\x04\x00\x02\x03\x01"
+        ),
+        Some((13, 0))
+    );
+    assert_eq!(rt;
+        refusal::<Path>(
+            &rt,
+            b"\x01\x00\x02\x02\x01\x01\x00\x02\x03\x01\x04\x00\x02\x02\x01"
+        ),
+        Some((13, 5))
     );
 }
 
@@ -283,17 +297,8 @@ const CHAINS: &[u8] =
 // What orient says of a book under the ranks of another.
 fn oriented_by_ranks(bytes: &[u8], ranks: &[u8]) -> Option<OrientFault> {
     let mut book = Book::empty();
-    if book.read(bytes).is_err() {
-        return None;
-    }
-    let mut other = Book::empty();
-    if other.read(ranks).is_err() {
-        return None;
-    }
-    let mut order = Path::empty();
-    if order.make(&other).is_err() {
-        return None;
-    }
+    book.read(bytes).ok()?;
+    let order: Path = order_of(ranks)?;
     let mut judge = Judge::empty();
     judge.orient(&book, &order).err()
 }
@@ -310,11 +315,19 @@ fn rules_are_oriented(rt: HostRuntime) {
     // rule 1 is the first that does not fall: kind 2, grade 1
     assert_eq!(rt;
         oriented_by_ranks(FALLS_THEN_RISES, FALLS_THEN_RISES),
-        Some(OrientFault::NotOver(1, 2, 1))
+        Some(OrientFault::NotOver {
+            rule: 1,
+            kind: 2,
+            grade: 1
+        })
     );
     assert_eq!(rt;
         oriented_by_ranks(CHAINS, CHAINS),
-        Some(OrientFault::NotOver(0, 2, 1))
+        Some(OrientFault::NotOver {
+            rule: 0,
+            kind: 2,
+            grade: 1
+        })
     );
     // the order has another signature
     assert_eq!(rt;

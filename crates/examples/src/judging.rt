@@ -1,11 +1,13 @@
 // Books that are judged: their overlaps, and whether they are sealed. The symbols are e 01/0, f 02/1, g 03/1, h 04/2; x is 80.
-use crate::client::{join_next, settle_next};
+use crate::client::{Refusal, join_next, settle_next};
 use book::book::Book;
 use judge::fault::SealFault;
 use judge::judge::Judge;
 use judge::sealed::Sealed;
 use judge::triple::Triple;
+use orders::book_order::BookOrder;
 use orders::path::Path;
+use std::process::Abort;
 
 // f f x to g x, with f of rank 2 and g of rank 1: f f f x becomes g f x or f g x
 const APART: &[u8] =
@@ -37,6 +39,11 @@ fn sealing(judge: &Judge) -> Option<SealFault> {
     judge.seal(&mut place).err()
 }
 
+// The number of the question that says no, or None if the client was not refused.
+fn number(answer: Result<(), Refusal>) -> Option<u8> {
+    answer.err().map(|refusal| refusal.number())
+}
+
 #[test]
 fn sides_that_do_not_join(rt: HostRuntime) {
     let mut judge = Judge::empty();
@@ -45,8 +52,8 @@ fn sides_that_do_not_join(rt: HostRuntime) {
         sealing(&judge),
         Some(SealFault::NotOpened(Triple { i: 0, p: 1, j: 0 }))
     );
-    assert_eq!(rt; settle_next(&mut judge), 0);
-    assert_eq!(rt; settle_next(&mut judge), 17);
+    assert_eq!(rt; number(settle_next(&mut judge)), None);
+    assert_eq!(rt; number(settle_next(&mut judge)), Some(17));
     assert_eq!(rt;
         sealing(&judge),
         Some(SealFault::LeftOpen(Triple { i: 0, p: 1, j: 0 }))
@@ -58,43 +65,44 @@ fn sides_that_join(rt: HostRuntime) {
     let mut judge = Judge::empty();
     assert!(rt; oriented(&mut judge, FLUSH));
     let mut page = [0u8; 1024];
-    assert_eq!(rt; join_next(&mut judge, b"", b"", &mut page), 0);
+    assert_eq!(rt; number(join_next(&mut judge, b"", b"", &mut page)), None);
     assert_eq!(rt; page[0], 0xFF);
     assert_eq!(rt; page[1023], 0xFF);
-    assert_eq!(rt; settle_next(&mut judge), 17);
+    assert_eq!(rt; number(settle_next(&mut judge)), Some(17));
     assert_eq!(rt; sealing(&judge), None);
 }
 
 // What the only overlap of the book says to these steps.
-fn shown(bytes: &[u8], outer: &[u8], inner: &[u8]) -> u8 {
+fn shown(rt: &impl Abort, bytes: &[u8], outer: &[u8], inner: &[u8]) -> Option<u8> {
     let mut judge = Judge::empty();
-    if !oriented(&mut judge, bytes) {
-        return 255;
-    }
+    assert!(rt; oriented(&mut judge, bytes));
     let mut page = [0u8; 1024];
-    join_next(&mut judge, outer, inner, &mut page)
+    number(join_next(&mut judge, outer, inner, &mut page))
 }
 
 #[test]
 fn shows_are_refused(rt: HostRuntime) {
     // an odd list; a step that does not match; ends that differ; one step on each side
-    assert_eq!(rt; shown(FLUSH, b"\x00", b""), 20);
-    assert_eq!(rt; shown(FLUSH, b"\x00\x01", b""), 21);
-    assert_eq!(rt; shown(FLUSH, b"\x00\x00", b""), 23);
-    assert_eq!(rt; shown(FLUSH, b"\x00\x00", b"\x00\x00"), 0);
+    assert_eq!(rt; shown(&rt, FLUSH, b"\x00", b""), Some(20));
+    assert_eq!(rt; shown(&rt, FLUSH, b"\x00\x01", b""), Some(21));
+    assert_eq!(rt; shown(&rt, FLUSH, b"\x00\x00", b""), Some(23));
+    assert_eq!(rt; shown(&rt, FLUSH, b"\x00\x00", b"\x00\x00"), None);
     // a page that is too short
     let mut judge = Judge::empty();
     assert!(rt; oriented(&mut judge, FLUSH));
     let mut short = [0u8; 1023];
-    assert_eq!(rt; join_next(&mut judge, b"", b"", &mut short), 31);
+    assert_eq!(rt;
+        number(join_next(&mut judge, b"", b"", &mut short)),
+        Some(31)
+    );
 }
 
 #[test]
 fn no_overlap_no_work(rt: HostRuntime) {
     let mut judge = Judge::empty();
-    assert_eq!(rt; settle_next(&mut judge), 17);
+    assert_eq!(rt; number(settle_next(&mut judge)), Some(17));
     assert_eq!(rt; sealing(&judge), None);
     assert!(rt; oriented(&mut judge, NO_OVERLAP));
-    assert_eq!(rt; settle_next(&mut judge), 17);
+    assert_eq!(rt; number(settle_next(&mut judge)), Some(17));
     assert_eq!(rt; sealing(&judge), None);
 }

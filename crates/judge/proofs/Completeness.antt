@@ -1,5 +1,5 @@
 -- If every overlap of a book joins within the limits, a run of judge calls seals it.
-use Rattle.std.proofs.Common.{◌≡◌, ℕ, ◌+◌, ◌*◌, ◌<◌, ◌≤◌, true, false, ◌⊎◌, List, [], ◌∷◌, length, Some, None, Option, sym, refl, ◌∙◌, subst, inl, inr, arith}
+use Rattle.std.proofs.Common.{◌≡◌, ℕ, ◌+◌, ◌*◌, ◌<◌, ◌≤◌, ◌⊎◌, List, [], ◌∷◌, length, Some, None, Option, sym, refl, ◌∙◌, subst, inl, inr, arith}
 use Rattle.terms.specs.Term.{Term, Rule, rule_at, sub, size}
 use Rattle.terms.specs.Prefix.{Arities}
 use Rattle.terms.specs.Place.{place}
@@ -11,7 +11,7 @@ use Rattle.rewriting.proofs.Statements.{one_overlap_list}
 use Rattle.judge.specs.declared.triple.Triple.{Triple}
 use Rattle.judge.specs.declared.progress.Progress.{Progress}
 use Rattle.judge.specs.Overlaps.{named, IsOverlap, Behind, NextOverlap, most_symbols, StepsWithin, none, more, JoinsWithin, Leads}
-use Rattle.judge.specs.Calls.{start, page_least, Opens, Shows, Settles, Seals}
+use Rattle.judge.specs.Calls.{start, opened, page_least, joined, Opens, Shows, Settles, Seals}
 use Rattle.judge.specs.Runs.{Call, next, show, settle, AllBytes, InBytes, Run, SealingIsComplete}
 use Rattle.judge.proofs.Keeping.{kept_start, kept_run}
 use Rattle.judge.proofs.Soundness.{seals_join}
@@ -85,7 +85,7 @@ pub record Sealable (rs : List Rule) (s : Progress) : Type 0 where
 
 -- a judge that has opened and settled the overlaps up to `last`, all of them joined
 abbrev pub joined_up_to : Option Triple → Progress
-joined_up_to last = record { last = last; out = false; shown = false; unjoined = None }
+joined_up_to last = record { last = last; ticket = None; unjoined = None }
 
 abbrev triple : unify.Triple → Triple
 triple a = record { i = a.i; p = a.p; j = a.j }
@@ -93,12 +93,12 @@ triple a = record { i = a.i; p = a.p; j = a.j }
 -- one round: the next overlap is opened, shown and settled
 pub round : (rs : List Rule) → length rs ≤ 256 → (last : Option Triple) (t : Triple) → NextOverlap rs last t → JoinsWithin rs t → Sealable rs (joined_up_to (Some t)) → Sealable rs (joined_up_to last)
 round rs few last t n w r =
-    let opened : Progress = record { last = Some t; out = true; shown = false; unjoined = None } in
-    let shown : Progress = record { last = Some t; out = true; shown = true; unjoined = None } in
+    let out : Progress = opened (joined_up_to last) t in
+    let shown : Progress = joined out in
     let o = told few w.fits.outer_fits w.outer_joins in
     let q = told few w.fits.inner_fits w.inner_joins in
-    let opens : Opens rs (joined_up_to last) t opened = record { no_ticket_out = refl; is_next = n; fits = (w.peak, w.outer, w.inner, w.fits); becomes = refl } in
-    let shows : Shows rs opened t o.steps q.steps page_least shown = record {
+    let opens : Opens rs (joined_up_to last) t out = record { no_ticket_out = refl; is_next = n; fits = (w.peak, w.outer, w.inner, w.fits); becomes = refl } in
+    let shows : Shows rs out t o.steps q.steps page_least shown = record {
       page_suffices = omega arith;
       is_out = (refl, refl);
       outer_fits = (w.outer_steps, o.two_each, w.few_outer);
@@ -117,7 +117,7 @@ round rs few last t n w r =
       calls = next ∷ (show t o.steps q.steps page_least ∷ (settle t ∷ r.calls));
       in_bytes = (o.bytes, q.bytes, r.in_bytes);
       end = r.end;
-      run = (opened, inl (t, opens), (shown, inl shows, (joined_up_to (Some t), inl settles, r.run)));
+      run = (out, inl (t, opens), (shown, inl shows, (joined_up_to (Some t), inl settles, r.run)));
       seals = r.seals;
     }
 

@@ -1,21 +1,33 @@
 -- What is found out about a triple of a book.
-use Rattle.std.proofs.Common.{◌≡◌, ℕ, ◌+◌, ◌<◌, ◌⊎◌, List, ◌∷◌, length, get_or, drop, sym, ap, ◌∙◌, ap₂, subst₂, inl, inr, arith}
+use Rattle.std.proofs.Common.{◌≡◌, ℕ, ◌+◌, ◌<◌, ◌⊎◌, Decides, Result, Ok, Err, is_ok, List, ◌∷◌, length, get_or, drop, sym, refl, ap, ◌∙◌, ap₂, subst₂, inl, inr, arith}
 use Rattle.std.proofs.lemmas.List.{drop_more}
 use Rattle.terms.specs.Term.{var, node, Term, Rule, rule_at, IsNode, size}
 use Rattle.terms.specs.Prefix.{Arities, Begins}
 use Rattle.terms.specs.Place.{part}
 use Rattle.terms.proofs.Reading.{prefix_length, bytes_read_as_their_term}
-use Rattle.terms.proofs.Parts.{part_begins}
-use Rattle.unification.specs.declared.critical.Critical.{Critical}
-use Rattle.unification.specs.declared.critical.Critical.TheVariants.{Malformed, Apart, TooLong, Pair}
+use Rattle.terms.proofs.Parts.{part_begins, side_of}
+use Rattle.unification.specs.declared.critical.CriticalPair.{CriticalPair}
+use Rattle.unification.specs.declared.critical.NoPair.{NoPair}
+use Rattle.unification.specs.declared.critical.NoPair.TheVariants.{Malformed, Apart, TooLong}
 use Rattle.unification.specs.Asked.{Asked, rule_of}
 use Rattle.unification.specs.Critical.{OfRules, Answer}
 use Rattle.unification.proofs.OfList.{of_list, in_list}
 use Rattle.book.specs.Meaning.{signature_of, rules_of}
 use Rattle.book.specs.Queries.{SidesOf}
 use Rattle.judge.specs.declared.triple.Triple.{Triple}
-use Rattle.judge.specs.Overlaps.{IsOverlap, Fits}
+use Rattle.judge.specs.Overlaps.{IsOverlap, Fits, OverlapFits}
 use Rattle.judge.specs.Pairs.{PairAnswer}
+
+-- an overlap that is within the limit has a pair
+pub not_fitting : (sig : Arities) (rs : List Rule) (t : Triple) (e : NoPair) → PairAnswer sig rs t (Err e) → OverlapFits rs t → ⊥
+not_fitting sig rs t Malformed a f = a f.3.pair.overlap
+not_fitting sig rs t Apart a f = a f.3.pair.overlap
+not_fitting sig rs t TooLong a f = a.1 f
+
+-- and one that has a pair is within the limit
+pub fits_if_ok : (sig : Arities) (rs : List Rule) (t : Triple) (answer : Result CriticalPair NoPair) → PairAnswer sig rs t answer → Decides (is_ok answer) (OverlapFits rs t)
+fits_if_ok sig rs t (Ok pair) a = (λ _. (a.1.peak, a.1.outer, a.1.inner, a.1.fits), λ _. refl)
+fits_if_ok sig rs t (Err e) a = (λ h. absurd cc, λ f. absurd (not_fitting sig rs t e a f))
 
 module _ (bs : List ℕ) (t : Triple) (root : t.p ≡ 0 → t.i < t.j) (l r l' r' : List ℕ) (first : SidesOf bs t.i l r) (second : SidesOf bs t.j l' r') where
   abbrev sig : Arities
@@ -36,7 +48,7 @@ module _ (bs : List ℕ) (t : Triple) (root : t.p ≡ 0 → t.i < t.j) (l r l' r
   is_two : rule_of sig l' r' ≡ two
   is_two = ap₂ (λ a b. record { left = a; right = b }) (bytes_read_as_their_term sig 4 l' two.left second.left_reads) (bytes_read_as_their_term sig 4 r' two.right second.right_reads)
 
-  of_rules : (c : Critical) → OfRules sig (rule_of sig l r) (rule_of sig l' r') t.p c → OfRules sig one two t.p c
+  of_rules : (c : Result CriticalPair NoPair) → OfRules sig (rule_of sig l r) (rule_of sig l' r') t.p c → OfRules sig one two t.p c
   of_rules c = subst₂ (λ a b. OfRules sig a b t.p c) is_one is_two
 
   long : length l ≡ size one.left
@@ -66,19 +78,19 @@ module _ (bs : List ℕ) (t : Triple) (root : t.p ≡ 0 → t.i < t.j) (l r l' r
   -- an overlap can be asked about
   asked_of : IsOverlap rs t → Asked sig l r t.p l' r'
   asked_of o = record {
-    first_left = record { term = (one.left, first.left_reads); short = first.left_most };
-    first_right = record { term = (one.right, first.right_reads); short = first.right_most };
-    second_left = record { term = (two.left, second.left_reads); short = second.left_most };
-    second_right = record { term = (two.right, second.right_reads); short = second.right_most };
+    first_left = side_of sig l one.left first.left_reads first.left_most;
+    first_right = side_of sig r one.right first.right_reads first.right_most;
+    second_left = side_of sig l' two.left second.left_reads second.left_most;
+    second_right = side_of sig r' two.right second.right_reads second.right_most;
     inside = omega (arith, o.inside, long);
     symbol = symbol_there (omega (arith, o.inside, long)) o.no_variable;
   }
 
-  pub found : (c : Critical) → Answer sig l r t.p l' r' c → PairAnswer sig rs t c
-  found Malformed a = λ o. a (asked_of o)
-  found Apart a = λ o. of_rules Apart a.1 o.unifier o.unifies
-  found TooLong a =
-      let w = of_rules TooLong a.1 in (
+  pub found : (c : Result CriticalPair NoPair) → Answer sig l r t.p l' r' c → PairAnswer sig rs t c
+  found (Err Malformed) a = λ o. a (asked_of o)
+  found (Err Apart) a = λ o. of_rules (Err Apart) a.1 o.unifier o.unifies
+  found (Err TooLong) a =
+      let w = of_rules (Err TooLong) a.1 in (
         record {
           first_rule = first.listed;
           second_rule = second.listed;
@@ -95,8 +107,8 @@ module _ (bs : List ℕ) (t : Triple) (root : t.p ≡ 0 → t.i < t.j) (l r l' r
       beyond (inl h) f = omega (arith, h, f.peak_fits)
       beyond (inr (inl h)) f = omega (arith, h, f.outer_fits)
       beyond (inr (inr h)) f = omega (arith, h, f.inner_fits)
-  found (Pair pair) a =
-      let w = of_rules (Pair pair) a.1 in
+  found (Ok pair) a =
+      let w = of_rules (Ok pair) a.1 in
       let o : IsOverlap rs t = record {
         first_rule = first.listed;
         second_rule = second.listed;

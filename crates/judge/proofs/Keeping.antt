@@ -1,25 +1,19 @@
 -- What a judge keeps of its overlaps holds at its beginning, and each call keeps it.
-use Rattle.std.proofs.Common.{◌≡◌, ℕ, ◌+◌, ◌*◌, ◌<◌, Bool, true, false, cond, ◌⊎◌, List, [], ◌∷◌, length, Some, None, Option, sym, refl, ap, ◌∙◌, subst, inl, inr, arith}
+use Rattle.std.proofs.Common.{◌≡◌, ℕ, ◌+◌, ◌*◌, ◌<◌, ◌⊎◌, List, [], ◌∷◌, length, Some, None, Option, IsSome, sym, refl, ap, ◌∙◌, subst, inl, inr, arith}
+use Rattle.std.proofs.lemmas.Option.{same_Some}
 use native.Mathlib.Decide.{dec_lt, ℕ_discrete}
 use Rattle.terms.specs.Term.{Term, Rule}
 use Rattle.rewriting.specs.Unify.{Before}
 use Rattle.judge.specs.declared.triple.Triple.{Triple}
 use Rattle.judge.specs.declared.progress.Progress.{Progress}
+use Rattle.judge.specs.declared.progress.Stage.{Stage}
+use Rattle.judge.specs.declared.progress.Stage.TheVariants.{Opened, Shown}
 use Rattle.judge.specs.Overlaps.{named, IsOverlap, Behind, OverlapFits, StepsWithin, none, more, JoinsWithin, Leads}
 use Rattle.judge.specs.Calls.{start, IsOut, Opens, Shows, first_left, Settles}
 use Rattle.judge.specs.Kept.{Kept}
 use Rattle.judge.specs.Runs.{Call, next, show, settle, seal, Moves, Run}
 
 -- ── triples ──
-
-pub false_not_true : false ≡ true → ⊥
-false_not_true e = let z : ◌≡◌ {A = ℕ} 0 1 = cc in omega arith
-
-some_not_none : (a : Triple) → ◌≡◌ {A = Option Triple} (Some a) None → ⊥
-some_not_none a e = let z : ◌≡◌ {A = ℕ} 0 1 = cc in omega arith
-
-some_same : (a b : Triple) → ◌≡◌ {A = Option Triple} (Some a) (Some b) → a ≡ b
-some_same a b e = cc
 
 same_triple : (a b : Triple) → a.i ≡ b.i → a.p ≡ b.p → a.j ≡ b.j → a ≡ b
 same_triple a b x y z =
@@ -62,9 +56,9 @@ in_sequence a b = by (sides_of a.i b.i) (sides_of a.p b.p) (sides_of a.j b.j)
 
 pub kept_start : (rs : List Rule) → Kept rs start
 kept_start rs = record {
-  out_of = λ e. absurd (false_not_true e);
+  out_of = λ e. absurd cc;
   settled = λ e u o before out. absurd (before tt);
-  shown_joins = λ e u o. absurd (false_not_true e);
+  shown_joins = λ e u o. absurd cc;
 }
 
 -- an overlap is opened: those before it, all that were opened earlier among them, were settled
@@ -74,13 +68,13 @@ kept_opens rs s after t k o =
     (record {
       out_of = λ e. (t, refl, o.is_next.overlap, o.fits);
       settled = λ e u ov before out. by e u ov before out (in_sequence t u);
-      shown_joins = λ e u h. absurd (false_not_true e);
+      shown_joins = λ e u h. absurd cc;
     })
   where
-    by : s.unjoined ≡ None → (u : Triple) → IsOverlap rs u → (Before (named t) (named u) → ⊥) → ((true ≡ true) × (◌≡◌ {A = Option Triple} (Some t) (Some u)) → ⊥) → Before (named t) (named u) ⊎ ((t ≡ u) ⊎ Before (named u) (named t)) → JoinsWithin rs u
+    by : s.unjoined ≡ None → (u : Triple) → IsOverlap rs u → (Before (named t) (named u) → ⊥) → (IsSome {T = Stage} (Some Opened) × (◌≡◌ {A = Option Triple} (Some t) (Some u)) → ⊥) → Before (named t) (named u) ⊎ ((t ≡ u) ⊎ Before (named u) (named t)) → JoinsWithin rs u
     by e u ov before out (inl b) = absurd (before b)
     by e u ov before out (inr (inl x)) = absurd (out (refl, ap {B = Option Triple} Some x))
-    by e u ov before out (inr (inr b)) = k.settled e u ov (λ c. o.is_next.least u ov c b) (λ h. false_not_true (sym o.no_ticket_out ∙ h.0))
+    by e u ov before out (inr (inr b)) = k.settled e u ov (λ c. o.is_next.least u ov c b) (λ h. cc (o.no_ticket_out, h.0))
 
 -- steps that are told are steps within the limit, one for each two bytes
 pub leads_within : (rs : List Rule) (steps : List ℕ) (t u : Term) → Leads rs steps t u → (n : ℕ) × (length steps ≡ 2 * n) × StepsWithin rs n t u
@@ -113,29 +107,31 @@ pub kept_shows : (rs : List Rule) (s after : Progress) (t : Triple) (os is : Lis
 kept_shows rs s after t os is page k h =
     subst (Kept rs) (sym h.becomes)
     (record {
-      out_of = k.out_of;
-      settled = k.settled;
-      shown_joins = λ e u o. subst (JoinsWithin rs) (some_same t u (sym h.is_out.1 ∙ o.1)) (shows_join rs s after t os is page h);
+      out_of = λ e. k.out_of h.is_out.0;
+      settled = λ e u o before out. k.settled e u o before (λ x. out (refl, x.1));
+      shown_joins = λ e u o. subst (JoinsWithin rs) (same_Some t u (sym h.is_out.1 ∙ o.1)) (shows_join rs s after t os is page h);
     })
 
 -- no overlap is left open only if none was before, and the one that is out was shown
-shown_and_none : (shown : Bool) (o : Option Triple) (t : Triple) → cond shown o (first_left o t) ≡ None → (shown ≡ true) × (o ≡ None)
-shown_and_none true o t e = (refl, e)
-shown_and_none false None t e = absurd (some_not_none t e)
-shown_and_none false (Some a) t e = absurd (some_not_none a e)
+shown_and_none : (stage : Option Stage) (o : Option Triple) (t : Triple) → first_left stage o t ≡ None → (stage ≡ Some Shown) × (o ≡ None)
+shown_and_none (Some Shown) o t e = (refl, e)
+shown_and_none (Some Opened) None t e = absurd cc
+shown_and_none (Some Opened) (Some a) t e = absurd cc
+shown_and_none None None t e = absurd cc
+shown_and_none None (Some a) t e = absurd cc
 
 pub kept_settles : (rs : List Rule) (s after : Progress) (t : Triple) → Kept rs s → Settles s t after → Kept rs after
 kept_settles rs s after t k h =
     subst (Kept rs) (sym h.becomes)
     (record {
-      out_of = λ e. absurd (false_not_true e);
-      settled = λ e u ov before out. by (shown_and_none s.shown s.unjoined t e) u ov before (same_triple? t u);
-      shown_joins = λ e u o. absurd (false_not_true e);
+      out_of = λ e. absurd cc;
+      settled = λ e u ov before out. by (shown_and_none s.ticket s.unjoined t e) u ov before (same_triple? t u);
+      shown_joins = λ e u o. absurd cc;
     })
   where
-    by : (s.shown ≡ true) × (s.unjoined ≡ None) → (u : Triple) → IsOverlap rs u → (Behind s.last u → ⊥) → Dec (t ≡ u) → JoinsWithin rs u
+    by : (s.ticket ≡ Some Shown) × (s.unjoined ≡ None) → (u : Triple) → IsOverlap rs u → (Behind s.last u → ⊥) → Dec (t ≡ u) → JoinsWithin rs u
     by e u ov before (yes x) = k.shown_joins e.0 u (h.is_out.0, h.is_out.1 ∙ ap {B = Option Triple} Some x)
-    by e u ov before (no n) = k.settled e.1 u ov before (λ o. n (some_same t u (sym h.is_out.1 ∙ o.1)))
+    by e u ov before (no n) = k.settled e.1 u ov before (λ o. n (same_Some t u (sym h.is_out.1 ∙ o.1)))
 
 -- ── runs ──
 
@@ -156,4 +152,4 @@ kept_run rs (c ∷ cs) s after k r = kept_run rs cs r.0 after (kept_moves rs s r
 pub out_fits : (rs : List Rule) (s : Progress) (t : Triple) → Kept rs s → IsOut s t → OverlapFits rs t
 out_fits rs s t k o =
     let f = k.out_of o.0 in
-    subst (OverlapFits rs) (some_same f.0 t (sym f.1 ∙ o.1)) f.3
+    subst (OverlapFits rs) (same_Some f.0 t (sym f.1 ∙ o.1)) f.3

@@ -1,3 +1,4 @@
+pub mod Books
 pub mod Completeness
 pub mod Falling
 pub mod Finding

@@ -1,5 +1,5 @@
 -- Triples by their numbers.
-use Rattle.std.proofs.Common.{◌≡◌, ℕ, ◌+◌, ◌<◌, ◌≤◌, ◌⊎◌, ◌↔◌, List, length, Some, None, Option, sym, subst, inl, inr, arith}
+use Rattle.std.proofs.Common.{◌≡◌, ℕ, ◌+◌, ◌*◌, ◌<◌, ◌≤◌, ◌⊎◌, ◌↔◌, List, length, Some, None, Option, subst, inl, inr, arith}
 use mathlib.Core.HLevel.{×_prop, Unit-prop}
 use mathlib.Core.Logic.{∥∥₁_elim}
 use native.Mathlib.Bridge.{le_prop}
@@ -7,9 +7,9 @@ use Rattle.std.proofs.lemmas.Bool.{cases_lt}
 use Rattle.terms.specs.Term.{Rule}
 use Rattle.rewriting.specs.Unify.{Overlap, Before}
 use Rattle.book.specs.Meaning.{rules_of}
-use Rattle.book.specs.Tables.{Holds}
-use Rattle.book.proofs.Held.{held_count, held_few}
+use Rattle.book.specs.declared.book.Book.{Book}
 use Rattle.book.proofs.RuleSides.{held_left_size}
+use Rattle.judge.proofs.Books.{few_rules}
 use Rattle.judge.specs.declared.triple.Triple.{Triple}
 use Rattle.judge.specs.Overlaps.{named, IsOverlap, Behind, NextOverlap, NoneLeft}
 use Rattle.judge.specs.Pairs.{triple_number, Ranged, LastRanged}
@@ -53,55 +53,50 @@ ranged_held last held = ∥∥₁_elim held (last_ranged_prop last) (λ r. r)
 
 -- ── the first triple behind one ──
 
-pub behind_none : (r : Triple) → r ≡ record { i = 0; p = 0; j = 0 } → (u : Triple) → Behind None u ↔ (triple_number r ≤ triple_number u)
-behind_none r e u = ((λ h. subst (λ r. triple_number r ≤ triple_number u) (sym e) (omega arith)), λ h. tt)
-
-pub behind_some : (t r : Triple) → Ranged t → triple_number r ≡ triple_number t + 1 → (u : Triple) → Ranged u → Behind (Some t) u ↔ (triple_number r ≤ triple_number u)
-behind_some t r a e u s = ((λ h. let l = before_number t u a s h in omega (arith, l, e)), λ h. number_before t u a s (omega (arith, h, e)))
+pub behind_some : (t u : Triple) (r : ℕ) → Ranged t → r ≡ triple_number t + 1 → Ranged u → Behind (Some t) u ↔ (r ≤ triple_number u)
+behind_some t u r a e s = ((λ h. let l = before_number t u a s h in omega (arith, l, e)), λ h. number_before t u a s (omega (arith, h, e)))
 
 -- ── the search ──
 
-module _ (bs arities : List ℕ) (symbols : ℕ) (rules : List ℕ) (count : ℕ) (held : ∥ Holds bs arities symbols rules count ∥₁) where
-  pub overlap_ranged : (u : Triple) → IsOverlap (rules_of bs) u → (u.i < 32) × Ranged u
-  overlap_ranged u o =
-      let few = held_few bs arities symbols rules count held in
-      let many = held_count bs arities symbols rules count held in
-      (omega (arith, o.first_rule, few, many), (omega (arith, o.inside, held_left_size bs arities symbols rules count u.i o.first_rule held), omega (arith, o.second_rule, few, many)))
+pub overlap_ranged : (b : Book) (u : Triple) → IsOverlap (rules_of b.tables.bytes.now) u → (u.i < 32) × Ranged u
+overlap_ranged b u o =
+    let few = few_rules b in
+    (omega (arith, o.first_rule, few), (omega (arith, o.inside, held_left_size b.tables u.i o.first_rule b.holds), omega (arith, o.second_rule, few)))
 
--- all overlaps behind the last one are at t or behind it, and all triples from t on are behind the last one
-pub record Searched (rs : List Rule) (last : Option Triple) (t : Triple) : Type 0 where
-  pub ranged : Ranged t
-  pub not_before : (u : Triple) → IsOverlap rs u → Behind last u → triple_number t ≤ triple_number u
-  pub from_here : (u : Triple) → Ranged u → triple_number t ≤ triple_number u → Behind last u
+-- all overlaps behind the last one have the number n or more, and all triples from n on are behind the last one
+pub record Searched (rs : List Rule) (last : Option Triple) (n : ℕ) : Type 0 where
+  pub not_before : (u : Triple) → IsOverlap rs u → Behind last u → n ≤ triple_number u
+  pub from_here : (u : Triple) → Ranged u → n ≤ triple_number u → Behind last u
 
-module _ (rs : List Rule) (in_range : (u : Triple) → IsOverlap rs u → (u.i < 32) × Ranged u) (last : Option Triple) where
-  pub search_begins : (r : Triple) → Ranged r → ((u : Triple) → Ranged u → Behind last u ↔ (triple_number r ≤ triple_number u)) → Searched rs last r
-  search_begins r a first = record {
-    ranged = a;
-    not_before = λ u o h. (first u (in_range u o).1).0 h;
+module _ (b : Book) (last : Option Triple) where
+  abbrev rs : List Rule
+  rs = rules_of b.tables.bytes.now
+
+  pub search_begins : (n : ℕ) → ((u : Triple) → Ranged u → Behind last u ↔ (n ≤ triple_number u)) → Searched rs last n
+  search_begins n first = record {
+    not_before = λ u o h. (first u (overlap_ranged b u o).1).0 h;
     from_here = λ u s h. (first u s).1 h;
   }
 
-  pub search_goes_on : (t r : Triple) → Searched rs last t → (IsOverlap rs t → ⊥) → Ranged r → triple_number r ≡ triple_number t + 1 → Searched rs last r
-  search_goes_on t r s n a e = record {
-    ranged = a;
-    not_before = λ u o h. by u o (s.not_before u o h) (cases_lt (triple_number t) (triple_number u));
-    from_here = λ u g h. s.from_here u g (omega (arith, h, e));
+  pub search_goes_on : (n : ℕ) (t : Triple) → Searched rs last n → Ranged t → triple_number t ≡ n → (IsOverlap rs t → ⊥) → Searched rs last (n + 1)
+  search_goes_on n t s a e apart = record {
+    not_before = λ u o h. by u o (s.not_before u o h) (cases_lt n (triple_number u));
+    from_here = λ u g h. s.from_here u g (omega (arith, h));
   }
     where
-      by : (u : Triple) → IsOverlap rs u → triple_number t ≤ triple_number u → (triple_number t < triple_number u) ⊎ (triple_number u ≤ triple_number t) → triple_number r ≤ triple_number u
-      by u o l (inl h) = omega (arith, h, e)
-      by u o l (inr h) = absurd (n (same_overlap rs u t (in_range u o).1 s.ranged (omega (arith, l, h)) o))
+      by : (u : Triple) → IsOverlap rs u → n ≤ triple_number u → (n < triple_number u) ⊎ (triple_number u ≤ n) → n + 1 ≤ triple_number u
+      by u o l (inl h) = omega (arith, h)
+      by u o l (inr h) = absurd (apart (same_overlap rs u t (overlap_ranged b u o).1 a (omega (arith, l, h, e)) o))
 
-  pub search_finds : (t : Triple) → Searched rs last t → IsOverlap rs t → NextOverlap rs last t
-  search_finds t s o = record {
+  pub search_finds : (n : ℕ) (t : Triple) → Searched rs last n → Ranged t → triple_number t ≡ n → IsOverlap rs t → NextOverlap rs last t
+  search_finds n t s a e o = record {
     overlap = o;
-    behind = s.from_here t s.ranged (omega arith);
-    least = λ u p h b. let l = before_number u t (in_range u p).1 s.ranged b in let g = s.not_before u p h in omega (arith, l, g);
+    behind = s.from_here t a (omega (arith, e));
+    least = λ u p h c. let l = before_number u t (overlap_ranged b u p).1 a c in let g = s.not_before u p h in omega (arith, l, g, e);
   }
 
-  pub search_ends : (t : Triple) → Searched rs last t → length rs ≤ t.i → NoneLeft rs last
-  search_ends t s past u o h =
+  pub search_ends : (n : ℕ) → Searched rs last n → 1024 * length rs ≤ n → NoneLeft rs last
+  search_ends n s past u o h =
       let g = s.not_before u o h in
-      let r = (in_range u o).1 in
+      let r = (overlap_ranged b u o).1 in
       omega (arith, g, r.0, r.1, past, o.first_rule)

@@ -1,5 +1,5 @@
 -- A judge that seals a book has seen every overlap join, so that the book's rules are convergent.
-use Rattle.std.proofs.Common.{ℕ, List, sym, ◌∙◌, subst}
+use Rattle.std.proofs.Common.{ℕ, List, subst}
 use Rattle.terms.specs.Term.{Term, Rule}
 use Rattle.terms.specs.Prefix.{Arities}
 use Rattle.rewriting.specs.Relation.{Star, done, step, Joinable, Confluent, Terminating}
@@ -14,11 +14,11 @@ use Rattle.judge.specs.Calls.{start, Seals}
 use Rattle.judge.specs.Kept.{Kept}
 use Rattle.judge.specs.Runs.{SealingIsSound}
 use Rattle.judge.proofs.Falling.{falling_proper, falling_terminates}
-use Rattle.judge.proofs.Keeping.{false_not_true, kept_start, kept_run}
+use Rattle.judge.proofs.Keeping.{kept_start, kept_run}
 
 -- where a judge seals, each overlap joins within the limits
 pub seals_join : (rs : List Rule) (s : Progress) → Kept rs s → Seals rs s → (u : Triple) → IsOverlap rs u → JoinsWithin rs u
-seals_join rs s k h u o = k.settled h.all_joined u o (h.all_opened u o) (λ out. false_not_true (sym h.no_ticket_out ∙ out.0))
+seals_join rs s k h u o = k.settled h.all_joined u o (h.all_opened u o) (λ out. cc (h.no_ticket_out, out.0))
 
 -- steps within the limit are a run
 pub within_star : {rs : List Rule} {n : ℕ} {t u : Term} → StepsWithin rs n t u → Star (Step rs) t u

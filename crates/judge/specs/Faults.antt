@@ -4,6 +4,8 @@ use Rattle.judge.specs.declared.fault.NextFault.{NextFault}
 use Rattle.judge.specs.declared.fault.NextFault.TheVariants as next
 use Rattle.judge.specs.declared.fault.SidesFault.{SidesFault}
 use Rattle.judge.specs.declared.fault.SidesFault.TheVariants as sides
+use Rattle.judge.specs.declared.fault.Side.{Side}
+use Rattle.judge.specs.declared.fault.Side.TheVariants.{Outer, Inner}
 use Rattle.judge.specs.declared.fault.ShowFault.{ShowFault}
 use Rattle.judge.specs.declared.fault.ShowFault.TheVariants as show
 use Rattle.judge.specs.declared.fault.SettleFault.{SettleFault}
@@ -20,7 +22,12 @@ abbrev pub sides_number : SidesFault → ℕ
 sides_number sides.OtherTicket = 19
 sides_number sides.ShortBuffer = 32
 
--- 21 and 22 carry the side, 0 for the outer and 1 for the inner, and the step from 0
+-- the number of a side
+abbrev pub side_number : Side → ℕ
+side_number Outer = 0
+side_number Inner = 1
+
+-- 21 and 22 carry the side and the step from 0
 abbrev pub show_number : ShowFault → ℕ
 show_number show.ShortPage = 31
 show_number show.OtherTicket = 19

@@ -1,11 +1,11 @@
 -- What is found out about a triple: whether it names an overlap, and its peak and sides in prefix form.
-use Rattle.std.specs.Prelude.{◌≡◌, ℕ, ◌+◌, ◌*◌, ◌<◌, ◌≤◌, List, ◌++◌, length, drop, Some, None, Option}
+use Rattle.std.specs.Prelude.{◌≡◌, ℕ, ◌+◌, ◌*◌, ◌<◌, ◌≤◌, List, ◌++◌, length, drop, Some, None, Option, Result, Ok, Err}
 use Rattle.terms.specs.Term.{Term, Rule, size}
-use Rattle.terms.specs.Prefix.{Arities, WellSorted, prefix}
+use Rattle.terms.specs.Prefix.{Arities, WellSorted, Reads, prefix}
 use Rattle.rewriting.specs.Rewrite.{Proper}
 use Rattle.unification.specs.declared.critical.CriticalPair.{CriticalPair}
-use Rattle.unification.specs.declared.critical.Critical.{Critical}
-use Rattle.unification.specs.declared.critical.Critical.TheVariants.{Malformed, Apart, TooLong, Pair}
+use Rattle.unification.specs.declared.critical.NoPair.{NoPair}
+use Rattle.unification.specs.declared.critical.NoPair.TheVariants.{Malformed, Apart, TooLong}
 use Rattle.unification.specs.Written.{bytes_of}
 use Rattle.judge.specs.declared.triple.Triple.{Triple}
 use Rattle.judge.specs.declared.progress.Progress.{Progress}
@@ -24,12 +24,22 @@ pub record PairWritten (sig : Arities) (rs : List Rule) (t : Triple) (pair : Cri
   pub inner_bytes : bytes_of pair.inner ≡ prefix inner
   pub sorted : Proper rs → WellSorted sig 8 outer × WellSorted sig 8 inner
 
+-- the pair of the overlap that is out: its sides are terms of the signature
+pub record PairOut (sig : Arities) (rs : List Rule) (s : Progress) (t : Triple) (pair : CriticalPair) : Type 0 where
+  pub is_out : IsOut s t
+  pub peak : Term
+  pub outer : Term
+  pub inner : Term
+  pub fits : Fits rs t peak outer inner
+  pub outer_reads : Reads sig 8 (bytes_of pair.outer) outer
+  pub inner_reads : Reads sig 8 (bytes_of pair.inner) inner
+
 -- what is answered for a triple
-abbrev pub PairAnswer : Arities → List Rule → Triple → Critical → Type 0
-PairAnswer sig rs t Malformed = IsOverlap rs t → ⊥
-PairAnswer sig rs t Apart = IsOverlap rs t → ⊥
-PairAnswer sig rs t TooLong = IsOverlap rs t × (OverlapFits rs t → ⊥)
-PairAnswer sig rs t (Pair pair) = IsOverlap rs t × PairWritten sig rs t pair
+abbrev pub PairAnswer : Arities → List Rule → Triple → Result CriticalPair NoPair → Type 0
+PairAnswer sig rs t (Err Malformed) = IsOverlap rs t → ⊥
+PairAnswer sig rs t (Err Apart) = IsOverlap rs t → ⊥
+PairAnswer sig rs t (Err TooLong) = IsOverlap rs t × (OverlapFits rs t → ⊥)
+PairAnswer sig rs t (Ok pair) = IsOverlap rs t × PairWritten sig rs t pair
 
 -- the triples in ascending sequence, numbered, where p and j are below 32
 abbrev pub triple_number : Triple → ℕ

@@ -1,6 +1,6 @@
 // Why a judge's calls are refused.
 ghost use Rattle.std.specs.Prelude.{◌≡◌};
-ghost use Rattle.judge.specs.Faults.{next_number, sides_number, show_number, settle_number, seal_number};
+ghost use Rattle.judge.specs.Faults.{next_number, sides_number, side_number, show_number, settle_number, seal_number};
 
 use crate::triple::Triple;
 
@@ -19,15 +19,22 @@ pub enum SidesFault {
     ShortBuffer,
 }
 
+// A side of an overlap.
+#[derive(Clone, Copy, PartialEq, Eq, Debug)]
+pub enum Side {
+    Outer,
+    Inner,
+}
+
 // The page is too short; the ticket's triple is not the one out; a list of steps is too long or has an odd number of bytes; a rule does not match at
-// its place, or its result is too long, on a side (0 outer, 1 inner) at a step; the ends are not equal.
+// its place, or its result is too long, on a side at a step; the ends are not equal.
 #[derive(Clone, Copy, PartialEq, Eq, Debug)]
 pub enum ShowFault {
     ShortPage,
     OtherTicket,
     BadLists,
-    NoMatch(u8, usize),
-    TooLong(u8, usize),
+    NoMatch { side: Side, step: usize },
+    TooLong { side: Side, step: usize },
     EndsDiffer,
 }
 
@@ -70,6 +77,18 @@ impl SidesFault {
     }
 }
 
+impl Side {
+    // The number of the side.
+    pub fn number(&self) -> u8
+        ensures { result ≡ side_number self.now }
+    {
+        match self {
+            Side::Outer => 0,
+            Side::Inner => 1,
+        }
+    }
+}
+
 impl ShowFault {
     // The number of the question that says no.
     pub fn number(&self) -> u8
@@ -79,8 +98,8 @@ impl ShowFault {
             ShowFault::ShortPage => 31,
             ShowFault::OtherTicket => 19,
             ShowFault::BadLists => 20,
-            ShowFault::NoMatch(_, _) => 21,
-            ShowFault::TooLong(_, _) => 22,
+            ShowFault::NoMatch { .. } => 21,
+            ShowFault::TooLong { .. } => 22,
             ShowFault::EndsDiffer => 23,
         }
     }

@@ -2,6 +2,7 @@
 #![tactic(auto)]
 
 pub mod fault;
+mod joining;
 pub mod judge;
 pub mod laws;
 mod opening;

@@ -7,22 +7,15 @@ ghost use Rattle.judge.specs.Calls.{Opens, NextRefused, Settles, SettleRefused};
 use crate::fault::{NextFault, SettleFault};
 use crate::judge::Judge;
 use crate::overlaps::{next_overlap, pair_of};
-use crate::progress::Progress;
 use crate::ticket::Ticket;
 use crate::triple::Triple;
 use book::book::Book;
-use unification::critical::Critical;
 
 // Whether the triple names an overlap whose peak and sides are within the limit.
 fn overlap_fits(book: &Book, t: &Triple) -> bool
     ensures { Decides result (OverlapFits (rules_of book.now.tables.bytes.now) t.now) }
 {
-    match pair_of(book, t) {
-        Critical::Malformed => false,
-        Critical::Apart => false,
-        Critical::TooLong => false,
-        Critical::Pair(_) => true,
-    }
+    pair_of(book, t).is_ok()
 }
 
 impl<'a> Judge<'a> {
@@ -33,21 +26,14 @@ impl<'a> Judge<'a> {
             (λ e. NextRefused (rules_of self.old.book.tables.bytes.now) self.old.progress e × (self.new.progress ≡ self.old.progress)) }
         ensures book { self.new.book ≡ self.old.book }
     {
-        if self.progress.out {
+        if self.progress.ticket.is_some() {
             return Err(NextFault::TicketOut);
         }
-        let Some(t) = next_overlap(&self.book, &self.progress.last) else {
-            return Err(NextFault::NoneLeft);
-        };
+        let t = next_overlap(&self.book, &self.progress.last).ok_or(NextFault::NoneLeft)?;
         if !overlap_fits(&self.book, &t) {
             return Err(NextFault::TooLong(t));
         }
-        self.progress = Progress {
-            last: Some(t),
-            out: true,
-            shown: false,
-            unjoined: self.progress.unjoined,
-        };
+        self.progress = self.progress.opened(t);
         Ok(Ticket::of(t))
     }
 

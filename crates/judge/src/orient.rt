@@ -12,19 +12,12 @@ use orders::fence::Fence;
 use orders::order::Order;
 use terms::prefix::Signature;
 
-// Whether the order has the book's arity of the byte.
-fn same_arity<O: Order>(book: &Book, order: &O, code: u8) -> bool
-    ensures { Decides result (O.Order.signature order.now code ≡ signature_of book.now.tables.bytes.now code) }
-{
-    order.arity(code) == book.arity(code)
-}
-
 // Whether the order has the book's arity of each byte.
 fn same_signature<O: Order>(book: &Book, order: &O) -> bool
     ensures { Decides result (SameSignature (O.Order.signature order.now) (signature_of book.now.tables.bytes.now)) }
 {
-    for code in 0..256usize {
-        if !same_arity(book, order, code as u8) {
+    for code in 0..=255u8 {
+        if order.arity(code) != book.arity(code) {
             return false;
         }
     }
@@ -38,11 +31,8 @@ fn grade_of_rule<O: Order>(book: &Book, order: &O, i: usize) -> u8
     ensures sorted { WellSorted (signature_of book.now.tables.bytes.now) 4 (rule_at (rules_of book.now.tables.bytes.now) i).left
         × WellSorted (signature_of book.now.tables.bytes.now) 4 (rule_at (rules_of book.now.tables.bytes.now) i).right }
 {
-    let fence = Fence::over(order);
-    match book.sides(i) {
-        Some(sides) => fence.weigh(sides.left, sides.right),
-        None => 0,
-    }
+    let sides = book.sides(i).unwrap();
+    Fence::over(order).weigh(sides.left, sides.right)
 }
 
 // Whether all rules of the book fall under the order; if not, the first fault.
@@ -58,7 +48,11 @@ pub(crate) fn rules_fall<O: Order>(book: &Book, order: &O) -> Result<(), OrientF
     for i in 0..book.rule_count() {
         let grade = grade_of_rule(book, order, i);
         if grade != 0 {
-            return Err(OrientFault::NotOver(i, O::kind_number(), grade));
+            return Err(OrientFault::NotOver {
+                rule: i,
+                kind: O::kind_number(),
+                grade,
+            });
         }
     }
     Ok(())

@@ -2,11 +2,11 @@
 ghost use Rattle.std.specs.Prelude.{◌≡◌};
 ghost use Rattle.judge.specs.Orient.{number_of};
 
-// The signatures differ; or a rule is not over: its number, the order's kind, and the rule's grade.
+// The signatures differ; or a rule is not over: its number, the order's kind, and the grade of its sides.
 #[derive(Clone, Copy, PartialEq, Eq, Debug)]
 pub enum OrientFault {
     OtherSignature,
-    NotOver(usize, u8, u8),
+    NotOver { rule: usize, kind: u8, grade: u8 },
 }
 
 impl OrientFault {
@@ -16,7 +16,7 @@ impl OrientFault {
     {
         match self {
             OrientFault::OtherSignature => 14,
-            OrientFault::NotOver(_, _, _) => 15,
+            OrientFault::NotOver { .. } => 15,
         }
     }
 }

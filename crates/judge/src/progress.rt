@@ -1,15 +1,21 @@
 // How far a judge has come.
 ghost use Rattle.std.specs.Prelude.{◌≡◌, Decides};
-ghost use Rattle.judge.specs.Calls.{start, IsOut, first_left, joined, settled};
+ghost use Rattle.judge.specs.Calls.{start, opened, IsOut, joined, settled};
 
 use crate::triple::Triple;
 
-// The overlap that was opened last; whether its ticket is out; whether it has been shown to join; and the first overlap that was settled without that.
+// What is known of the overlap whose ticket is out: it was opened, and maybe shown to join.
+#[derive(Clone, Copy, PartialEq, Eq, Debug)]
+pub enum Stage {
+    Opened,
+    Shown,
+}
+
+// The overlap that was opened last; its stage while its ticket is out, and None if no ticket is; and the first overlap that was settled unshown.
 #[derive(Clone, Copy)]
 pub struct Progress {
     pub(crate) last: Option<Triple>,
-    pub(crate) out: bool,
-    pub(crate) shown: bool,
+    pub(crate) ticket: Option<Stage>,
     pub(crate) unjoined: Option<Triple>,
 }
 
@@ -20,9 +26,19 @@ impl Progress {
     {
         Progress {
             last: None,
-            out: false,
-            shown: false,
+            ticket: None,
             unjoined: None,
+        }
+    }
+
+    // The overlap t is opened, and its ticket is out.
+    pub(crate) fn opened(&self, t: Triple) -> Progress
+        ensures { result ≡ opened self.now t }
+    {
+        Progress {
+            last: Some(t),
+            ticket: Some(Stage::Opened),
+            ..*self
         }
     }
 
@@ -30,13 +46,7 @@ impl Progress {
     pub(crate) fn is_out(&self, t: &Triple) -> bool
         ensures { Decides result (IsOut self.now t.now) }
     {
-        if !self.out {
-            return false;
-        }
-        match &self.last {
-            None => false,
-            Some(last) => last.i == t.i && last.p == t.p && last.j == t.j,
-        }
+        self.ticket.is_some() && self.last == Some(*t)
     }
 
     // The overlap that is out has been shown to join.
@@ -44,10 +54,8 @@ impl Progress {
         ensures { result ≡ joined self.now }
     {
         Progress {
-            last: self.last,
-            out: self.out,
-            shown: true,
-            unjoined: self.unjoined,
+            ticket: Some(Stage::Shown),
+            ..*self
         }
     }
 
@@ -55,26 +63,14 @@ impl Progress {
     pub(crate) fn settled(&self, t: Triple) -> Progress
         ensures { result ≡ settled self.now t }
     {
-        let unjoined = if self.shown {
-            self.unjoined
-        } else {
-            first_open(self.unjoined, t)
+        let unjoined = match self.ticket {
+            Some(Stage::Shown) => self.unjoined,
+            _ => self.unjoined.or(Some(t)),
         };
         Progress {
-            last: self.last,
-            out: false,
-            shown: false,
+            ticket: None,
             unjoined,
+            ..*self
         }
-    }
-}
-
-// The first of the overlaps left open.
-fn first_open(unjoined: Option<Triple>, t: Triple) -> Option<Triple>
-    ensures { result ≡ first_left unjoined t }
-{
-    match unjoined {
-        Some(first) => Some(first),
-        None => Some(t),
     }
 }

@@ -16,7 +16,7 @@ impl<'a> Judge<'a> {
             (λ e. SealRefused (rules_of self.now.book.tables.bytes.now) self.now.progress e) }
         ensures place { MatchResult result (λ _. place.new.book ≡ self.now.book) (λ _. place.new ≡ place.old) }
     {
-        if self.progress.out {
+        if self.progress.ticket.is_some() {
             return Err(SealFault::TicketOut);
         }
         if let Some(t) = next_overlap(&self.book, &self.progress.last) {

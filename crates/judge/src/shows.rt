@@ -4,14 +4,11 @@ ghost use Rattle.book.specs.Meaning.{rules_of};
 ghost use Rattle.judge.specs.Calls.{joined, Shows, ShowRefused};
 
 use crate::fault::ShowFault;
+use crate::joining::Joining;
 use crate::judge::Judge;
 use crate::page::PageGuard;
-use crate::showing::{check_lists, list_fits};
-use crate::sides::fitting_pair;
+use crate::showing::{PAGE, check_joining};
 use crate::ticket::Ticket;
-
-// The shortest page.
-const PAGE: usize = 1024;
 
 impl<'a> Judge<'a> {
     // Whether the lists lead to one term, whatever is left in the page.
@@ -26,27 +23,10 @@ impl<'a> Judge<'a> {
             (λ _. Shows (rules_of self.now.book.tables.bytes.now) self.now.progress ticket.now.triple outer_list.now inner_list.now (length page.old) (joined self.now.progress))
             (λ e. ShowRefused (rules_of self.now.book.tables.bytes.now) self.now.progress ticket.now.triple outer_list.now inner_list.now (length page.old) e) }
     {
-        if page.len() < PAGE {
-            return Err(ShowFault::ShortPage);
-        }
-        let t = ticket.triple();
-        if !self.progress.is_out(&t) {
-            return Err(ShowFault::OtherTicket);
-        }
-        if !list_fits(outer_list) || !list_fits(inner_list) {
-            return Err(ShowFault::BadLists);
-        }
-        let Some(pair) = fitting_pair(&self.book, &t) else {
-            return Err(ShowFault::OtherTicket);
-        };
-        check_lists(
-            &self.book,
-            pair.outer.as_slice(),
-            pair.inner.as_slice(),
-            outer_list,
-            inner_list,
-            page,
-        )
+        let page = page.first_chunk_mut::<PAGE>().ok_or(ShowFault::ShortPage)?;
+        let pair = self.pair_out(ticket).ok_or(ShowFault::OtherTicket)?;
+        let joining = Joining::told(outer_list, inner_list).ok_or(ShowFault::BadLists)?;
+        check_joining(&self.book, &pair, &joining, page)
     }
 
     // Checks one list of steps from the outer side of the overlap that is out and one from the inner side: whether they lead to one term. Says which question says the first no. All bytes of the page are FF after it.

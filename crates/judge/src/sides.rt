@@ -1,42 +1,39 @@
 // The two sides of the overlap that is out.
 ghost use Rattle.std.specs.Prelude.{◌≡◌, ◌≤◌, ◌++◌, length, drop, MatchOption, MatchResult};
 ghost use Rattle.book.specs.Meaning.{signature_of, rules_of};
-ghost use Rattle.judge.specs.Overlaps.{OverlapFits};
-ghost use Rattle.judge.specs.Pairs.{PairWritten, SidesLaid, SidesRefused};
+ghost use Rattle.judge.specs.Calls.{IsOut};
+ghost use Rattle.judge.specs.Pairs.{PairOut, SidesLaid, SidesRefused};
 
 use crate::fault::SidesFault;
 use crate::judge::Judge;
 use crate::overlaps::pair_of;
+use crate::showing::TERM;
 use crate::ticket::Ticket;
-use crate::triple::Triple;
-use book::book::Book;
-use unification::critical::{Critical, CriticalPair};
-
-// A side has at most so many bytes.
-const SIDE: usize = 255;
-
-// The peak and the sides of an overlap that is within the limit.
-pub(crate) fn fitting_pair(book: &Book, t: &Triple) -> Option<CriticalPair>
-    requires { ∥ OverlapFits (rules_of book.now.tables.bytes.now) t.now ∥₁ }
-    ensures { MatchOption result ⊥ (PairWritten (signature_of book.now.tables.bytes.now) (rules_of book.now.tables.bytes.now) t.now) }
-{
-    match pair_of(book, t) {
-        Critical::Malformed => None,
-        Critical::Apart => None,
-        Critical::TooLong => None,
-        Critical::Pair(pair) => Some(pair),
-    }
-}
+use unification::critical::CriticalPair;
 
 // Copies the bytes to the front of the buffer.
 fn copy_front(buffer: &mut [u8], bytes: &[u8])
     requires { length bytes.now ≤ length buffer.old }
     ensures { buffer.new ≡ bytes.now ++ drop (length bytes.now) buffer.old }
 {
-    buffer[0..bytes.len()].copy_from_slice(bytes);
+    buffer[..bytes.len()].copy_from_slice(bytes);
 }
 
 impl<'a> Judge<'a> {
+    // The peak and the sides of the overlap that is out, or None if the ticket names another.
+    pub(crate) fn pair_out(&self, ticket: &Ticket) -> Option<CriticalPair>
+        ensures { MatchOption result
+            (IsOut self.now.progress ticket.now.triple → ⊥)
+            (PairOut (signature_of self.now.book.tables.bytes.now) (rules_of self.now.book.tables.bytes.now) self.now.progress ticket.now.triple) }
+    {
+        let t = ticket.triple();
+        if self.progress.is_out(&t) {
+            pair_of(&self.book, &t).ok()
+        } else {
+            None
+        }
+    }
+
     // Writes the outer and the inner side of the overlap that is out to the front of the buffers and answers both lengths, or says which question says the first no, and leaves both buffers as they are.
     pub fn sides(
         &self,
@@ -50,16 +47,10 @@ impl<'a> Judge<'a> {
             × (outer.new ≡ outer.old)
             × (inner.new ≡ inner.old)) }
     {
-        let t = ticket.triple();
-        if !self.progress.is_out(&t) {
-            return Err(SidesFault::OtherTicket);
-        }
-        if outer.len() < SIDE || inner.len() < SIDE {
+        let pair = self.pair_out(ticket).ok_or(SidesFault::OtherTicket)?;
+        if outer.len() < TERM || inner.len() < TERM {
             return Err(SidesFault::ShortBuffer);
         }
-        let Some(pair) = fitting_pair(&self.book, &t) else {
-            return Err(SidesFault::OtherTicket);
-        };
         let a = pair.outer.as_slice();
         let b = pair.inner.as_slice();
         copy_front(outer, a);

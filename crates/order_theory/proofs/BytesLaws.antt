@@ -1,5 +1,6 @@
 -- The laws of an order that grades byte strings by the terms that they are.
 use Rattle.std.proofs.Common.{◌≡◌, ℕ, Bool, true, false, cond, ◌&&◌, T, List, sym, refl, ap, ◌∙◌, ap₂, arith}
+use Rattle.std.proofs.lemmas.Bool.{false≢true}
 use Rattle.terms.specs.Term.{Term}
 use Rattle.terms.specs.Prefix.{Arities, WellSorted, Reads, term_of}
 use Rattle.terms.proofs.Reading.{bytes_read_as_their_term}
@@ -9,16 +10,13 @@ use Rattle.order_theory.specs.Grade.{is_side, grade_of_bytes}
 use Rattle.order_theory.specs.Laws.{OrderLaws}
 use Rattle.order_theory.proofs.Testing.{side_sound, side_complete, and_intro, and_parts}
 
-pub never : true ≡ false → ⊥
-never e = let z : ◌≡◌ {A = ℕ} 0 1 = cc in omega arith
-
 pub to_true : (b : Bool) → T b → b ≡ true
 to_true true h = refl
 to_true false h = absurd h
 
 pub from_true : (b : Bool) → b ≡ true → T b
 from_true true e = tt
-from_true false e = absurd (never (sym e))
+from_true false e = absurd (false≢true e)
 
 module _ (sig : Arities) (grade : Term → Term → ℕ) where
   module _ (bs cs : List ℕ) where

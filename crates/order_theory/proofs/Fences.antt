@@ -1,18 +1,15 @@
 -- The fence in words, and that it keeps the laws that the order beneath keeps.
 use Rattle.std.proofs.Common.{◌≡◌, ℕ, ◌<◌, ◌≤◌, true, false, cond, eqb, ltb, leb, ◌⊎◌, List, [], ◌∷◌, ◌++◌, length, sym, refl, ap, ◌∙◌, subst, ap₂, inl, inr, arith}
-use Rattle.std.proofs.lemmas.Bool.{or_cases, or_left, or_right, and_from, and_parts, eqb-true, eqb-false, eq-eqb, ne_eqb, ltb-true, ltb-false, cases_Bool, le-leb, lt-leb}
+use Rattle.std.proofs.lemmas.Bool.{false≢true, or_cases, or_left, or_right, and_from, and_parts, eqb-true, eqb-false, eq-eqb, ne_eqb, ltb-true, ltb-false, cases_Bool, le-leb, lt-leb}
 use Rattle.terms.specs.Term.{Kind, Tree, var, node, nil, cons, Term, Terms, Occurs}
 use Rattle.terms.specs.Prefix.{Arities, prefix, WellSorted, Reads}
 use Rattle.order_theory.specs.Laws.{OrderLaws}
 use Rattle.order_theory.specs.Fence.{ProperPair, has, is_known, keeps_variables, is_proper, fence_grade, FenceInWords}
 
-never : false ≡ true → ⊥
-never e = let z : ◌≡◌ {A = ℕ} 0 1 = cc in omega arith
-
 -- ── one of the bytes ──
 
 has_left : (x : ℕ) (ds bs : List ℕ) → has x ds ≡ true → has x (ds ++ bs) ≡ true
-has_left x [] bs h = absurd (never h)
+has_left x [] bs h = absurd (false≢true h)
 has_left x (a ∷ ds) bs h = by (has_left x ds bs) (or_cases (eqb a x) (has x ds) h)
   where
     by : (has x ds ≡ true → has x (ds ++ bs) ≡ true) → (eqb a x ≡ true) ⊎ (has x ds ≡ true) → has x (a ∷ ds ++ bs) ≡ true
@@ -50,13 +47,13 @@ module _ (sig : Arities) (x : ℕ) where
     where
       by : (eqb y x ≡ true) ⊎ (false ≡ true) → x ≡ y
       by (inl e) = sym (eqb-true y x e)
-      by (inr e) = absurd (never e)
+      by (inr e) = absurd (false≢true e)
   has_occurs (node f ts) w v h = by (has_occurs ts w.2 v) (or_cases (eqb f x) (has x (prefix ts)) h)
     where
       by : (has x (prefix ts) ≡ true → Occurs x ts) → (eqb f x ≡ true) ⊎ (has x (prefix ts) ≡ true) → Occurs x ts
       by k (inl e) = absurd (omega (arith, eqb-true f x e, w.0))
       by k (inr e) = k e
-  has_occurs nil w v h = absurd (never h)
+  has_occurs nil w v h = absurd (false≢true h)
   has_occurs (cons t ts) w v h = by (has_occurs t w.0 v) (has_occurs ts w.1 v) (has_split x (prefix t) (prefix ts) h)
     where
       by : (has x (prefix t) ≡ true → Occurs x t) → (has x (prefix ts) ≡ true → Occurs x ts) → (has x (prefix t) ≡ true) ⊎ (has x (prefix ts) ≡ true) → Occurs x t ⊎ Occurs x ts
@@ -73,7 +70,7 @@ module _ (sig : Arities) (x : ℕ) where
 -- ── all variables are kept ──
 
 known_of : (bs cs : List ℕ) (x : ℕ) → keeps_variables bs cs ≡ true → has x cs ≡ true → is_known bs x ≡ true
-known_of bs [] x k h = absurd (never h)
+known_of bs [] x k h = absurd (false≢true h)
 known_of bs (c ∷ cs) x k h = by (known_of bs cs x parts.1) (or_cases (eqb c x) (has x cs) h)
   where
     parts : (is_known bs c ≡ true) × (keeps_variables bs cs ≡ true)
@@ -126,7 +123,7 @@ module _ (sig : Arities) where
   proper_complete (node f ts) t ws wt h = is_proper_node f ts (prefix t) ws.0 ∙ keeps sig (node f ts) t ws wt h.1
 
   proper_sound : (s t : Term) → WellSorted sig 4 s → WellSorted sig 4 t → is_proper (prefix s) (prefix t) ≡ true → ProperPair s t
-  proper_sound (var x) t ws wt h = absurd (never (sym (is_proper_variable x (prefix t) ws.0) ∙ h))
+  proper_sound (var x) t ws wt h = absurd (false≢true (sym (is_proper_variable x (prefix t) ws.0) ∙ h))
   proper_sound (node f ts) t ws wt h = (tt, kept sig (node f ts) t ws wt (sym (is_proper_node f ts (prefix t) ws.0) ∙ h))
 
 -- ── the grade ──

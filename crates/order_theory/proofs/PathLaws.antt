@@ -1,5 +1,6 @@
 -- The path order keeps the laws of an order.
 use Rattle.std.proofs.Common.{◌≡◌, ℕ, Bool, true, false, cond, List, sym, refl, ap, ◌∙◌, subst, subst₂, inl, inr, arith}
+use Rattle.std.proofs.lemmas.Bool.{true≢false}
 use mathlib.Core.WellFounded.{Acc}
 use Rattle.terms.specs.Term.{var, node, nil, cons, Term, Terms, Occurs}
 use Rattle.terms.specs.Prefix.{Arities, Reads}
@@ -11,7 +12,7 @@ use Rattle.order_theory.specs.Theorems.{InWords, variable, argument, higher_head
 use Rattle.order_theory.proofs.PathEnds.{well_founded, greater_sub, larger_plug}
 use Rattle.order_theory.proofs.PathStrict.{greater_trans, irreflexive}
 use Rattle.order_theory.proofs.Testing.{greater_sound, greater_complete}
-use Rattle.order_theory.proofs.BytesLaws.{never, to_true, from_true, grade_of_terms, bytes_keep_the_laws}
+use Rattle.order_theory.proofs.BytesLaws.{to_true, from_true, grade_of_terms, bytes_keep_the_laws}
 
 -- ── in words ──
 
@@ -75,7 +76,7 @@ module _ (sig : Arities) (rank : ℕ → ℕ) where
       same false e = go (greater rank s t) refl
         where
           go : (w : Bool) → greater rank s t ≡ w → w ≡ false
-          go true d = absurd (never (sym (from (greater_sound rank s t (from_true (greater rank s t) d))) ∙ e))
+          go true d = absurd (true≢false (sym (from (greater_sound rank s t (from_true (greater rank s t) d))) ∙ e))
           go false d = refl
 
 pub path_order_keeps_the_laws : PathOrderKeepsTheLaws

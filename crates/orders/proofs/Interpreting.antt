@@ -1,12 +1,14 @@
 -- What a table of the places of polynomials tells, and that the polynomials of a book are a proper interpretation of its symbols.
-use Rattle.std.proofs.Common.{◌≡◌, ℕ, zero, suc, ◌+◌, ◌-◌, ◌*◌, ◌/◌, ◌<◌, ◌≤◌, Bool, true, false, cond, ◌&&◌, eqb, ltb, ◌⊎◌, List, [], ◌∷◌, ◌++◌, length, get_or, take, drop, Some, None, unwrap_or, sym, refl, ap, ◌∙◌, subst, ap₂, inl, inr, append_assoc, mod-lt, arith, length-append, length-drop}
+use Rattle.std.proofs.Common.{◌≡◌, ℕ, zero, suc, ◌+◌, ◌-◌, ◌*◌, ◌/◌, ◌≤◌, Bool, true, false, cond, ◌&&◌, eqb, ◌⊎◌, List, [], ◌∷◌, ◌++◌, length, get_or, take, drop, Some, None, unwrap_or, sym, refl, ap, ◌∙◌, subst, ap₂, inl, inr, append_assoc, mod-lt, arith, length-append, length-drop}
 use native.Mathlib.Nat.{div-add-mod}
 use Rattle.std.proofs.lemmas.List.{drop-drop, drop-take}
-use Rattle.std.proofs.lemmas.Bool.{eqb-true, eq-eqb, ne_eqb, ltb-true, ltb-false, cases_Bool}
+use Rattle.std.proofs.lemmas.Bool.{eqb-true, eq-eqb, cases_Bool}
 use Rattle.terms.specs.Prefix.{Arities}
 use Rattle.terms.specs.Question.{AllYes}
 use Rattle.book.specs.Format.{BookField, field_bytes, fields, value_length}
 use Rattle.book.specs.Meaning.{code, arity, signature, Located, located, with_tag, fields_of, signature_of}
+use Rattle.book.specs.Places.{place_of}
+use Rattle.book.specs.declared.places.Places.{Places}
 use Rattle.book.proofs.FieldBytes.{length_there}
 use Rattle.book.proofs.Pairs.{ValueThere}
 use Rattle.polynomials.specs.Polynomial.{Polynomial, degree}
@@ -15,10 +17,6 @@ use Rattle.polynomials.specs.Interpretation.{Positive, ProperFor, Proper}
 use Rattle.orders.specs.Figures.{HasField, AllHave}
 use Rattle.orders.specs.FieldQuestions.{AllPass, Answered, figure_place, FigurePlaces}
 use Rattle.orders.specs.Polynomials.{monomials_in, monomials_by, interpretation_of, MonomialsFit, HasArguments, polynomial_questions, length_before, monomials_from, monomials_of, Whole}
-use Rattle.orders.proofs.FigurePlacing.{AsksDeclared, declared_of}
-
-pub polynomials_declared : AsksDeclared polynomial_questions
-polynomials_declared sig before l asked = asked.0.declared
 
 -- ── the monomials at a place ──
 
@@ -32,12 +30,11 @@ module _ (bs : List ℕ) (l : Located) (there : ValueThere bs 3 l) where
   counts : length_before bs (l.offset + 4) ≡ length l.field.value
   counts = ap (λ o. value_length (drop o bs)) back ∙ there.counted
 
-  monomials_there : monomials_from bs (l.offset + 4) ≡ monomials_in l.field
+  monomials_there : monomials_from bs (Some (l.offset + 4)) ≡ monomials_in l.field
   monomials_there =
       let n : length l.field.value ≡ 1 + (length l.field.value - 1) = omega (arith, at_least) in
       let o : l.offset + 3 + 1 ≡ l.offset + 4 = omega arith in
-      ap (λ b. cond b [] (take (length_before bs (l.offset + 4) - 1) (drop (l.offset + 4) bs))) (ne_eqb (l.offset + 4) 0 (λ e. omega (arith, e)))
-      ∙ ap₂ (λ n w. take (n - 1) w) counts (ap (λ o. drop o bs) (sym o) ∙ sym (drop-drop 1 (l.offset + 3) bs))
+      ap₂ (λ n w. take (n - 1) w) counts (ap (λ o. drop o bs) (sym o) ∙ sym (drop-drop 1 (l.offset + 3) bs))
       ∙ sym (drop-take 1 (length l.field.value - 1) (drop (l.offset + 3) bs))
       ∙ ap (λ n. drop 1 (take n (drop (l.offset + 3) bs))) (sym n)
       ∙ ap (drop 1) there.value_is
@@ -53,40 +50,25 @@ monomials_of_place bs c pre [] full e p = refl
 monomials_of_place bs c pre (l ∷ ls) full e p =
     by (eqb (code l.field) c) (monomials_of_place bs c (pre ++ l ∷ []) ls full (e ∙ sym (append_assoc pre (l ∷ []) ls)) p)
   where
-    by : (b : Bool) → monomials_from bs (figure_place ls c) ≡ monomials_by ls c → monomials_from bs (cond b (l.offset + 4) (figure_place ls c)) ≡ cond b (monomials_in l.field) (monomials_by ls c)
+    by : (b : Bool) → monomials_from bs (figure_place ls c) ≡ monomials_by ls c → monomials_from bs (cond b (Some (l.offset + 4)) (figure_place ls c)) ≡ cond b (monomials_in l.field) (monomials_by ls c)
     by true h = monomials_there bs l (p pre ls l e)
     by false h = h
 
-whole_of_place : (bs : List ℕ) (c : ℕ) (pre ls full : List Located) → full ≡ pre ++ ls → AllThere bs full → (figure_place ls c ≡ 0 → ⊥) → Whole bs (figure_place ls c)
-whole_of_place bs c pre [] full e p n = absurd (n refl)
-whole_of_place bs c pre (l ∷ ls) full e p n =
-    by (eqb (code l.field) c) n (whole_of_place bs c (pre ++ l ∷ []) ls full (e ∙ sym (append_assoc pre (l ∷ []) ls)) p)
+whole_of_place : (bs : List ℕ) (c p : ℕ) (pre ls full : List Located) → full ≡ pre ++ ls → AllThere bs full → figure_place ls c ≡ Some p → Whole bs p
+whole_of_place bs c p pre [] full e t n = cc
+whole_of_place bs c p pre (l ∷ ls) full e t n =
+    by (eqb (code l.field) c) n (whole_of_place bs c p (pre ++ l ∷ []) ls full (e ∙ sym (append_assoc pre (l ∷ []) ls)) t)
   where
-    by : (b : Bool) → (cond b (l.offset + 4) (figure_place ls c) ≡ 0 → ⊥) → ((figure_place ls c ≡ 0 → ⊥) → Whole bs (figure_place ls c)) → Whole bs (cond b (l.offset + 4) (figure_place ls c))
-    by true m h = whole_there bs l (p pre ls l e)
+    by : (b : Bool) → cond b (Some (l.offset + 4)) (figure_place ls c) ≡ Some p → (figure_place ls c ≡ Some p → Whole bs p) → Whole bs p
+    by true m h = let q : l.offset + 4 ≡ p = cc in subst (Whole bs) q (whole_there bs l (t pre ls l e))
     by false m h = h m
 
-no_monomials : (ls : List Located) (c : ℕ) → (HasField c ls → ⊥) → monomials_by ls c ≡ []
-no_monomials [] c n = refl
-no_monomials (l ∷ ls) c n = ap (λ b. cond b (monomials_in l.field) (monomials_by ls c)) (ne_eqb (code l.field) c (λ e. n (inl e))) ∙ no_monomials ls c (λ h. n (inr h))
+module _ (bs : List ℕ) (places : Places) (placed : FigurePlaces places (fields_of bs 3)) (there : AllThere bs (fields_of bs 3)) where
+  pub places_whole : (c p : ℕ) → place_of places c ≡ Some p → Whole bs p
+  places_whole c p n = whole_of_place bs c p [] (fields_of bs 3) (fields_of bs 3) refl there (sym (placed c) ∙ n)
 
-module _ (bs places : List ℕ) (placed : FigurePlaces places (fields_of bs 3)) (there : AllThere bs (fields_of bs 3)) where
-  pub places_whole : (c : ℕ) → c < 128 → (get_or places c 0 ≡ 0 → ⊥) → Whole bs (get_or places c 0)
-  places_whole c small n =
-      let e = placed c small in
-      subst (Whole bs) (sym e) (whole_of_place bs c [] (fields_of bs 3) (fields_of bs 3) refl there (λ z. n (e ∙ z)))
-
-  pub places_tell : AllPass polynomial_questions (signature_of bs) [] (fields_of bs 3) → ((c : ℕ) → 128 ≤ c → signature_of bs c ≡ None) → (c : ℕ) → monomials_of bs places c ≡ monomials_by (fields_of bs 3) c
-  places_tell a codes c = by (cases_Bool (ltb c 128))
-    where
-      by : (ltb c 128 ≡ true) ⊎ (ltb c 128 ≡ false) → monomials_of bs places c ≡ monomials_by (fields_of bs 3) c
-      by (inl e) =
-          ap (λ b. cond b (monomials_from bs (get_or places c 0)) []) e
-          ∙ ap (monomials_from bs) (placed c (ltb-true c 128 e))
-          ∙ monomials_of_place bs c [] (fields_of bs 3) (fields_of bs 3) refl there
-      by (inr e) =
-          ap (λ b. cond b (monomials_from bs (get_or places c 0)) []) e
-          ∙ sym (no_monomials (fields_of bs 3) c (λ h. declared_of polynomial_questions polynomials_declared (signature_of bs) [] (fields_of bs 3) c a h (codes c (ltb-false c 128 e))))
+  pub places_tell : (c : ℕ) → monomials_of bs places c ≡ monomials_by (fields_of bs 3) c
+  places_tell c = ap (monomials_from bs) (placed c) ∙ monomials_of_place bs c [] (fields_of bs 3) (fields_of bs 3) refl there
 
 -- the length as it is read from two bytes
 pub length_read : (bs : List ℕ) (p : ℕ) → 4 ≤ p → 256 * get_or bs (p - 3) 0 + get_or bs (p - 2) 0 ≡ length_before bs p
@@ -141,7 +123,7 @@ found sig c before (l ∷ ls) full e a h = by (cases_Bool (eqb (code l.field) c)
     by (inr d) (inr s) later = subst (Found sig full c) (sym (ap (λ b. cond b (monomials_in l.field) (monomials_by ls c)) d)) (later s)
 
 declared_field : (at : ℕ) (fs : List BookField) (c n : ℕ) → signature fs c ≡ Some n → HasField c (with_tag 1 (located at fs))
-declared_field at [] c n e = let z : ◌≡◌ {A = ℕ} 0 1 = cc in absurd (omega arith)
+declared_field at [] c n e = cc
 declared_field at (f ∷ fs) c n e = by (eqb f.tag 1) (eqb (code f) c) refl e (declared_field (at + length (field_bytes f)) fs c n)
   where
     rest : List Located
@@ -177,16 +159,14 @@ proper_interpretation bs there figured c n e =
 
 -- ── the empty book ──
 
-pub record Nothing (bs places : List ℕ) : Type 0 where
+pub record Nothing (bs : List ℕ) (places : Places) : Type 0 where
   pub placed : FigurePlaces places (fields_of bs 3)
   pub there : AllThere bs (fields_of bs 3)
   pub figured : Answered polynomial_questions bs 3
-  pub codes : (c : ℕ) → 128 ≤ c → signature_of bs c ≡ None
 
-pub nothing : (bs places : List ℕ) → bs ≡ [] → ((c : ℕ) → c < 128 → get_or places c 0 ≡ 0) → Nothing bs places
-nothing bs places e zeros = subst (λ bs. Nothing bs places) (sym e) (record {
-  placed = zeros;
+pub nothing : (bs : List ℕ) (places : Places) → bs ≡ [] → ((c : ℕ) → place_of places c ≡ None) → Nothing bs places
+nothing bs places e none = subst (λ bs. Nothing bs places) (sym e) (record {
+  placed = none;
   there = λ before rest l d. absurd (omega (arith, ap length d, length-append before (l ∷ rest)));
   figured = record { all_pass = tt; all_have = tt };
-  codes = λ c h. refl;
 })

@@ -1,6 +1,6 @@
 pub mod PathBytes
-pub mod Placing
 pub mod FigurePlacing
+pub mod Ranking
 pub mod MonomialLists
 pub mod Interpreting
 pub mod Samples

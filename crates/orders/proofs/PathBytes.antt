@@ -1,5 +1,9 @@
 -- The path order on prefix bytes: what each return of the deciding functions comes from.
-use Rattle.std.proofs.Common.{◌≡◌, ℕ, ◌+◌, ◌-◌, ◌<◌, ◌≤◌, Bool, true, false, ◌⊎◌, List, length, get_or, take, drop, Some, None, Decides, Option, unwrap_or, sym, refl, ap, ◌∙◌, subst, ap₂, subst₂, inl, inr, arith, length-append, length-drop}
+use Rattle.std.proofs.Common.{◌≡◌, ℕ, ◌+◌, ◌-◌, ◌<◌, ◌≤◌, Bool, true, false, eqb, ◌⊎◌, List, length, get_or, take, drop, Some, None, Decides, Option, IfSome, sym, refl, ap, ◌∙◌, subst, ap₂, subst₂, inl, inr, arith}
+use Rattle.std.specs.Cmp.Lexicographic.{pointwise}
+use Rattle.std.proofs.lemmas.Bool.{false≢true}
+use Rattle.std.proofs.lemmas.Bool.Decides.{not_from_Decides, Decides-like, Decides-eqb}
+use Rattle.std.proofs.lemmas.Slice.Eq.{slice_eq-Decides}
 use Rattle.std.proofs.lemmas.List.{take_at, drop_at, take_rest, drop-drop}
 use Rattle.terms.specs.Term.{var, node, nil, cons, Term, Terms, how_many, size}
 use Rattle.terms.specs.Prefix.{Arities, prefix, WellSorted, Reads, FirstTerm}
@@ -9,37 +13,38 @@ use Rattle.order_theory.specs.Path.{Greater, by_argument, SomeAtLeast, is_first,
 use Rattle.order_theory.proofs.PathStrict.{irreflexive}
 use Rattle.order_theory.proofs.PathSteps.{below_all, variable_not, higher_decides, other_head, common_many, common_same, greater_there, later_below, only_later, later_suffices}
 
-never : false ≡ true → ⊥
-never e = let z : ◌≡◌ {A = ℕ} 0 1 = cc in omega arith
-
 -- an answer "no", and an answer that another one gives
 pub says_no : (P : Type 0) → (P → ⊥) → Decides false P
-says_no P n = ((λ e. absurd (never e)), λ p. absurd (n p))
+says_no P n = ((λ e. absurd (false≢true e)), λ p. absurd (n p))
 
 pub says_yes : (P : Type 0) → P → Decides true P
 says_yes P p = ((λ e. p), λ q. refl)
 
-pub says_as : (r : Bool) (P Q : Type 0) → (P → Q) → (Q → P) → Decides r P → Decides r Q
-says_as r P Q to from d = ((λ e. to (d.0 e)), λ q. d.1 (from q))
-
-pub yes_of : (r : Bool) (P : Type 0) → r ≡ true → Decides r P → P
-yes_of r P e d = d.0 e
-
 pub no_of : (r : Bool) (P : Type 0) → r ≡ false → Decides r P → P → ⊥
-no_of r P e d p = never (sym e ∙ d.1 p)
+no_of r P e d = not_from_Decides r d e
+
+-- `==` on two slices says whether the bytes are the same
+pub same_slices : (s t : List ℕ) (r : Bool) → r ≡ pointwise eqb s t → Decides r (s ≡ t)
+same_slices s t r e = slice_eq-Decides Decides-eqb s t r e
 
 module _ (sig : Arities) where
   -- ── the first of some terms ──
 
-  pub first_inside : (bs : List ℕ) (o : Option ℕ) → FirstTerm sig 4 bs o → unwrap_or o 0 ≤ length bs
-  first_inside bs (Some n) f = first_within sig 4 bs n f
-  first_inside bs None f = omega arith
+  first_something : (bs : List ℕ) (n : ℕ) → FirstTerm sig 4 bs (Some n) → n ≡ 0 → ⊥
+  first_something bs n f z = omega (arith, f.2, size_pos f.0)
 
-  pub first_size : (bs : List ℕ) (o : Option ℕ) → FirstTerm sig 4 bs o → (x : Term) (xs : Terms) → WellSorted sig 4 (cons x xs) → prefix (cons x xs) ≡ bs → unwrap_or o 0 ≡ size x
-  first_size bs (Some n) f x xs w e =
+  pub first_inside : (bs : List ℕ) (o : Option ℕ) → FirstTerm sig 4 bs o → IfSome o (λ n. (1 ≤ n) × (n ≤ length bs))
+  first_inside bs (Some n) f = (omega (arith, f.2, size_pos f.0), first_within sig 4 bs n f)
+  first_inside bs None f = tt
+
+  first_size : (bs : List ℕ) (n : ℕ) → FirstTerm sig 4 bs (Some n) → (x : Term) (xs : Terms) → WellSorted sig 4 (cons x xs) → prefix (cons x xs) ≡ bs → n ≡ size x
+  first_size bs n f x xs w e =
       let same = begins_unique sig 4 bs f.0 x f.1 (record { sorted = w.0; rest = prefix xs; form = e }) in
       omega (arith, f.2, ap size same)
-  first_size bs None f x xs w e = absurd (f x (record { sorted = w.0; rest = prefix xs; form = e }))
+
+  no_terms : (bs : List ℕ) → FirstTerm sig 4 bs None → (xs : Terms) → WellSorted sig 4 xs → prefix xs ≡ bs → xs ≡ nil
+  no_terms bs f nil w e = refl
+  no_terms bs f (cons x xs) w e = absurd (f x (record { sorted = w.0; rest = prefix xs; form = e }))
 
   -- ── bytes of a term ──
 
@@ -57,14 +62,23 @@ module _ (sig : Arities) where
   variable_is bs x r = omega (arith, ap (λ w. get_or w 0 0) (sym r.form), r.sorted.0)
 
   -- the front and the rest of some terms
-  pub front_reads : (bs : List ℕ) (n : ℕ) (x : Term) (xs : Terms) → n ≡ size x → WellSorted sig 4 (cons x xs) → prefix (cons x xs) ≡ bs → Reads sig 4 (take (n - 0) (drop 0 bs)) x
+  pub front_reads : (bs : List ℕ) (n : ℕ) (x : Term) (xs : Terms) → n ≡ size x → WellSorted sig 4 (cons x xs) → prefix (cons x xs) ≡ bs → Reads sig 4 (take n bs) x
   front_reads bs n x xs e w p =
-      let k : n - 0 ≡ size x = omega arith in
-      record { sorted = w.0; form = sym (take_at (prefix x) (prefix xs) (size x) (prefix_length x)) ∙ ap₂ take (sym k) p }
+      record { sorted = w.0; form = sym (take_at (prefix x) (prefix xs) (size x) (prefix_length x)) ∙ ap₂ take (sym e) p }
 
   pub rest_prefix : (bs : List ℕ) (n : ℕ) (x : Term) (xs : Terms) → n ≡ size x → prefix (cons x xs) ≡ bs → prefix xs ≡ take (length bs - n) (drop n bs)
   rest_prefix bs n x xs e p =
       sym (drop_at (prefix x) (prefix xs) n (prefix_length x ∙ sym e)) ∙ ap (drop n) p ∙ sym (take_rest bs n)
+
+  -- ── what two lists begin with alike ──
+
+  sorted_left : {us vs xs ys : Terms} → Common us vs xs ys → WellSorted sig 4 us → WellSorted sig 4 xs
+  sorted_left from_the_start w = w
+  sorted_left (one_more c) w = (sorted_left c w).1
+
+  sorted_right : {us vs xs ys : Terms} → Common us vs xs ys → WellSorted sig 4 vs → WellSorted sig 4 ys
+  sorted_right from_the_start w = w
+  sorted_right (one_more c) w = (sorted_right c w).1
 
   module _ (rank : ℕ → ℕ) where
     -- ── greater ──
@@ -92,18 +106,13 @@ module _ (sig : Arities) where
     higher_head s t r H l k (node f us) (var y) p q = absurd (omega (arith, variable_is t y q, k.0))
     higher_head s t r H l k (node f us) (node g vs) p q =
         let above : rank g < rank f = subst₂ (λ y x. rank y < rank x) (head_is t g vs q) (head_is s f us p) k.1 in
-        says_as r (GreaterThanAll rank (node f us) vs) (Greater rank (node f us) (node g vs))
-        (higher_decides rank f g us vs above) (below_all rank (node f us) g vs)
-        (H (node f us) vs p q.sorted.2 (arguments t g vs q))
+        Decides-like r (higher_decides rank f g us vs above) (below_all rank (node f us) g vs) (H (node f us) vs p q.sorted.2 (arguments t g vs q))
 
     pub neither : (s t : List ℕ) (r : Bool) → ((xs : Terms) (b : Term) → WellSorted sig 4 xs → prefix xs ≡ take (length s - 1) (drop 1 s) → Reads sig 4 t b → Decides r (SomeAtLeast rank xs b))
         → get_or s 0 0 < 128 → (get_or s 0 0 ≡ get_or t 0 0 → ⊥) → ((get_or t 0 0 < 128) × (rank (get_or t 0 0) < rank (get_or s 0 0)) → ⊥) → (a b : Term) → Reads sig 4 s a → Reads sig 4 t b → Decides r (Greater rank a b)
     neither s t r H l n m (var x) b p q = absurd (omega (arith, variable_is s x p))
     neither s t r H l n m (node f us) b p q =
-        says_as r (SomeAtLeast rank us b) (Greater rank (node f us) b)
-        (λ a. by_argument a)
-        (other_head rank f us b (λ g vs e. others g vs (subst (Reads sig 4 t) e q)))
-        (H us b p.sorted.2 (arguments s f us p) q)
+        Decides-like r (λ a. by_argument a) (other_head rank f us b (λ g vs e. others g vs (subst (Reads sig 4 t) e q))) (H us b p.sorted.2 (arguments s f us p) q)
       where
         others : (g : ℕ) (vs : Terms) → Reads sig 4 t (node g vs) → (rank g < rank f → ⊥) × (f ≡ g → ⊥)
         others g vs w = (
@@ -117,7 +126,7 @@ module _ (sig : Arities) where
     same_yes s t a b e p q = says_yes ((a ≡ b) ⊎ Greater rank a b) (inl (same_bytes_same_term sig 4 4 t a b (subst (λ w. Reads sig 4 w a) e p) q))
 
     pub same_not : (s t : List ℕ) (a b : Term) (r : Bool) → (s ≡ t → ⊥) → Reads sig 4 s a → Reads sig 4 t b → Decides r (Greater rank a b) → Decides r ((a ≡ b) ⊎ Greater rank a b)
-    same_not s t a b r n p q d = says_as r (Greater rank a b) ((a ≡ b) ⊎ Greater rank a b) inr back d
+    same_not s t a b r n p q d = Decides-like r inr back d
       where
         back : (a ≡ b) ⊎ Greater rank a b → Greater rank a b
         back (inl e) = absurd (n (sym p.form ∙ ap prefix e ∙ q.form))
@@ -125,77 +134,68 @@ module _ (sig : Arities) where
 
     -- ── some at least ──
 
-    no_terms : (bs : List ℕ) (n : ℕ) (xs : Terms) → n ≡ 0 → ((x : Term) (ys : Terms) → WellSorted sig 4 (cons x ys) → prefix (cons x ys) ≡ bs → n ≡ size x) → WellSorted sig 4 xs → prefix xs ≡ bs → xs ≡ nil
-    no_terms bs n nil z first w e = refl
-    no_terms bs n (cons x xs) z first w e = absurd (omega (arith, first x xs w e, size_pos x))
-
-    module _ (bs : List ℕ) (n : ℕ) (first : (x : Term) (xs : Terms) → WellSorted sig 4 (cons x xs) → prefix (cons x xs) ≡ bs → n ≡ size x) where
-      pub some_none : n ≡ 0 → (xs : Terms) (b : Term) → WellSorted sig 4 xs → prefix xs ≡ bs → Decides false (SomeAtLeast rank xs b)
-      some_none z xs b w e = says_no (SomeAtLeast rank xs b) (none_of xs b (no_terms bs n xs z first w e))
+    module _ (bs : List ℕ) (first : FirstTerm sig 4 bs None) where
+      pub some_none : (xs : Terms) (b : Term) → WellSorted sig 4 xs → prefix xs ≡ bs → Decides false (SomeAtLeast rank xs b)
+      some_none xs b w e = says_no (SomeAtLeast rank xs b) (none_of xs b (no_terms bs first xs w e))
         where
           none_of : (ys : Terms) (c : Term) → ys ≡ nil → SomeAtLeast rank ys c → ⊥
-          none_of ys c d (is_first) = let q : ◌≡◌ {A = ℕ} 0 1 = cc in omega arith
-          none_of ys c d (in_first g) = let q : ◌≡◌ {A = ℕ} 0 1 = cc in omega arith
-          none_of ys c d (in_rest g) = let q : ◌≡◌ {A = ℕ} 0 1 = cc in omega arith
+          none_of ys c d (is_first) = cc
+          none_of ys c d (in_first g) = cc
+          none_of ys c d (in_rest g) = cc
 
-      pub all_none : n ≡ 0 → (a : Term) (xs : Terms) → WellSorted sig 4 xs → prefix xs ≡ bs → Decides true (GreaterThanAll rank a xs)
-      all_none z a xs w e = says_yes (GreaterThanAll rank a xs) (subst (GreaterThanAll rank a) (sym (no_terms bs n xs z first w e)) than_none)
+      pub all_none : (a : Term) (xs : Terms) → WellSorted sig 4 xs → prefix xs ≡ bs → Decides true (GreaterThanAll rank a xs)
+      all_none a xs w e = says_yes (GreaterThanAll rank a xs) (subst (GreaterThanAll rank a) (sym (no_terms bs first xs w e)) than_none)
 
-      -- ── the first of the terms, and the rest ──
+    -- ── the first of the terms, and the rest ──
 
-      module _ (inside : n ≤ length bs) (some : n ≡ 0 → ⊥) where
-        no_nil : prefix nil ≡ bs → ⊥
-        no_nil e = omega (arith, ap length e)
+    module _ (bs : List ℕ) (n : ℕ) (first : FirstTerm sig 4 bs (Some n)) where
+      no_nil : prefix nil ≡ bs → ⊥
+      no_nil e = first_something bs n first (omega (arith, ap length e, first_within sig 4 bs n first))
 
-        pub some_first : (t : List ℕ) (r : Bool) → r ≡ true → ((a b : Term) → Reads sig 4 (take (n - 0) (drop 0 bs)) a → Reads sig 4 t b → Decides r ((a ≡ b) ⊎ Greater rank a b))
-            → (xs : Terms) (b : Term) → WellSorted sig 4 xs → prefix xs ≡ bs → Reads sig 4 t b → Decides true (SomeAtLeast rank xs b)
-        some_first t r y H nil b w e q = absurd (no_nil e)
-        some_first t r y H (cons x xs) b w e q = says_yes (SomeAtLeast rank (cons x xs) b) (go ((H x b (front_reads bs n x xs (first x xs w e) w e) q).0 y))
-          where
-            go : (x ≡ b) ⊎ Greater rank x b → SomeAtLeast rank (cons x xs) b
-            go (inl d) = subst (SomeAtLeast rank (cons x xs)) d is_first
-            go (inr g) = in_first g
+      pub some_first : (t : List ℕ) (r : Bool) → r ≡ true → ((a b : Term) → Reads sig 4 (take n bs) a → Reads sig 4 t b → Decides r ((a ≡ b) ⊎ Greater rank a b))
+          → (xs : Terms) (b : Term) → WellSorted sig 4 xs → prefix xs ≡ bs → Reads sig 4 t b → Decides true (SomeAtLeast rank xs b)
+      some_first t r y H nil b w e q = absurd (no_nil e)
+      some_first t r y H (cons x xs) b w e q = says_yes (SomeAtLeast rank (cons x xs) b) (go ((H x b (front_reads bs n x xs (first_size bs n first x xs w e) w e) q).0 y))
+        where
+          go : (x ≡ b) ⊎ Greater rank x b → SomeAtLeast rank (cons x xs) b
+          go (inl d) = subst (SomeAtLeast rank (cons x xs)) d is_first
+          go (inr g) = in_first g
 
-        pub some_later : (t : List ℕ) (r k : Bool) → r ≡ false → ((a b : Term) → Reads sig 4 (take (n - 0) (drop 0 bs)) a → Reads sig 4 t b → Decides r ((a ≡ b) ⊎ Greater rank a b))
-            → ((xs : Terms) (b : Term) → WellSorted sig 4 xs → prefix xs ≡ take (length bs - n) (drop n bs) → Reads sig 4 t b → Decides k (SomeAtLeast rank xs b))
-            → (xs : Terms) (b : Term) → WellSorted sig 4 xs → prefix xs ≡ bs → Reads sig 4 t b → Decides k (SomeAtLeast rank xs b)
-        some_later t r k y H L nil b w e q = absurd (no_nil e)
-        some_later t r k y H L (cons x xs) b w e q =
-            says_as k (SomeAtLeast rank xs b) (SomeAtLeast rank (cons x xs) b) in_rest
-            (λ h. back (cons x xs) b h refl refl)
-            (L xs b w.1 (rest_prefix bs n x xs (first x xs w e) e) q)
-          where
-            differ : (x ≡ b) ⊎ Greater rank x b → ⊥
-            differ = no_of r ((x ≡ b) ⊎ Greater rank x b) y (H x b (front_reads bs n x xs (first x xs w e) w e) q)
+      pub some_later : (t : List ℕ) (r k : Bool) → r ≡ false → ((a b : Term) → Reads sig 4 (take n bs) a → Reads sig 4 t b → Decides r ((a ≡ b) ⊎ Greater rank a b))
+          → ((xs : Terms) (b : Term) → WellSorted sig 4 xs → prefix xs ≡ take (length bs - n) (drop n bs) → Reads sig 4 t b → Decides k (SomeAtLeast rank xs b))
+          → (xs : Terms) (b : Term) → WellSorted sig 4 xs → prefix xs ≡ bs → Reads sig 4 t b → Decides k (SomeAtLeast rank xs b)
+      some_later t r k y H L nil b w e q = absurd (no_nil e)
+      some_later t r k y H L (cons x xs) b w e q =
+          Decides-like k in_rest (λ h. back (cons x xs) b h refl refl) (L xs b w.1 (rest_prefix bs n x xs (first_size bs n first x xs w e) e) q)
+        where
+          differ : (x ≡ b) ⊎ Greater rank x b → ⊥
+          differ = not_from_Decides r (H x b (front_reads bs n x xs (first_size bs n first x xs w e) w e) q) y
 
-            back : (ws : Terms) (v : Term) → SomeAtLeast rank ws v → ws ≡ cons x xs → v ≡ b → SomeAtLeast rank xs b
-            back ws v (is_first {t = u}) d c = absurd (differ (inl (cc)))
-            back ws v (in_first {s = u} g) d c = let p : u ≡ x = cc in absurd (differ (inr (subst₂ (Greater rank) p c g)))
-            back ws v (in_rest {ss = rest} g) d c = let p : rest ≡ xs = cc in subst₂ (SomeAtLeast rank) p c g
+          back : (ws : Terms) (v : Term) → SomeAtLeast rank ws v → ws ≡ cons x xs → v ≡ b → SomeAtLeast rank xs b
+          back ws v (is_first {t = u}) d c = absurd (differ (inl (cc)))
+          back ws v (in_first {s = u} g) d c = let p : u ≡ x = cc in absurd (differ (inr (subst₂ (Greater rank) p c g)))
+          back ws v (in_rest {ss = rest} g) d c = let p : rest ≡ xs = cc in subst₂ (SomeAtLeast rank) p c g
 
-        pub all_first : (s : List ℕ) (r : Bool) → r ≡ false → ((a b : Term) → Reads sig 4 s a → Reads sig 4 (take (n - 0) (drop 0 bs)) b → Decides r (Greater rank a b))
-            → (a : Term) (xs : Terms) → Reads sig 4 s a → WellSorted sig 4 xs → prefix xs ≡ bs → Decides false (GreaterThanAll rank a xs)
-        all_first s r y H a nil q w e = absurd (no_nil e)
-        all_first s r y H a (cons x xs) q w e =
-            says_no (GreaterThanAll rank a (cons x xs)) (λ h. no_of r (Greater rank a x) y (H a x q (front_reads bs n x xs (first x xs w e) w e)) (head_of a (cons x xs) h refl))
-          where
-            head_of : (c : Term) (ws : Terms) → GreaterThanAll rank c ws → ws ≡ cons x xs → Greater rank c x
-            head_of c ws than_none d = let z : ◌≡◌ {A = ℕ} 0 1 = cc in absurd (omega arith)
-            head_of c ws (than_next {t = u} g k) d = let p : u ≡ x = cc in subst (Greater rank c) p g
+      pub all_first : (s : List ℕ) (r : Bool) → r ≡ false → ((a b : Term) → Reads sig 4 s a → Reads sig 4 (take n bs) b → Decides r (Greater rank a b))
+          → (a : Term) (xs : Terms) → Reads sig 4 s a → WellSorted sig 4 xs → prefix xs ≡ bs → Decides false (GreaterThanAll rank a xs)
+      all_first s r y H a nil q w e = absurd (no_nil e)
+      all_first s r y H a (cons x xs) q w e =
+          says_no (GreaterThanAll rank a (cons x xs)) (λ h. not_from_Decides r (H a x q (front_reads bs n x xs (first_size bs n first x xs w e) w e)) y (head_of a (cons x xs) h refl))
+        where
+          head_of : (c : Term) (ws : Terms) → GreaterThanAll rank c ws → ws ≡ cons x xs → Greater rank c x
+          head_of c ws than_none d = cc
+          head_of c ws (than_next {t = u} g k) d = let p : u ≡ x = cc in subst (Greater rank c) p g
 
-        pub all_later : (s : List ℕ) (r k : Bool) → r ≡ true → ((a b : Term) → Reads sig 4 s a → Reads sig 4 (take (n - 0) (drop 0 bs)) b → Decides r (Greater rank a b))
-            → ((a : Term) (xs : Terms) → Reads sig 4 s a → WellSorted sig 4 xs → prefix xs ≡ take (length bs - n) (drop n bs) → Decides k (GreaterThanAll rank a xs))
-            → (a : Term) (xs : Terms) → Reads sig 4 s a → WellSorted sig 4 xs → prefix xs ≡ bs → Decides k (GreaterThanAll rank a xs)
-        all_later s r k y H L a nil q w e = absurd (no_nil e)
-        all_later s r k y H L a (cons x xs) q w e =
-            says_as k (GreaterThanAll rank a xs) (GreaterThanAll rank a (cons x xs))
-            (than_next ((H a x q (front_reads bs n x xs (first x xs w e) w e)).0 y))
-            (λ h. tail_of a (cons x xs) h refl)
-            (L a xs q w.1 (rest_prefix bs n x xs (first x xs w e) e))
-          where
-            tail_of : (c : Term) (ws : Terms) → GreaterThanAll rank c ws → ws ≡ cons x xs → GreaterThanAll rank c xs
-            tail_of c ws than_none d = let z : ◌≡◌ {A = ℕ} 0 1 = cc in absurd (omega arith)
-            tail_of c ws (than_next {ts = rest} g k) d = let p : rest ≡ xs = cc in subst (GreaterThanAll rank c) p k
+      pub all_later : (s : List ℕ) (r k : Bool) → r ≡ true → ((a b : Term) → Reads sig 4 s a → Reads sig 4 (take n bs) b → Decides r (Greater rank a b))
+          → ((a : Term) (xs : Terms) → Reads sig 4 s a → WellSorted sig 4 xs → prefix xs ≡ take (length bs - n) (drop n bs) → Decides k (GreaterThanAll rank a xs))
+          → (a : Term) (xs : Terms) → Reads sig 4 s a → WellSorted sig 4 xs → prefix xs ≡ bs → Decides k (GreaterThanAll rank a xs)
+      all_later s r k y H L a nil q w e = absurd (no_nil e)
+      all_later s r k y H L a (cons x xs) q w e =
+          Decides-like k (than_next ((H a x q (front_reads bs n x xs (first_size bs n first x xs w e) w e)).0 y)) (λ h. tail_of a (cons x xs) h refl) (L a xs q w.1 (rest_prefix bs n x xs (first_size bs n first x xs w e) e))
+        where
+          tail_of : (c : Term) (ws : Terms) → GreaterThanAll rank c ws → ws ≡ cons x xs → GreaterThanAll rank c xs
+          tail_of c ws than_none d = cc
+          tail_of c ws (than_next {ts = rest} g k) d = let p : rest ≡ xs = cc in subst (GreaterThanAll rank c) p k
 
     -- ── the same head: by the arguments ──
 
@@ -205,10 +205,6 @@ module _ (sig : Arities) where
 
       as_many : how_many xs ≡ how_many ys
       as_many = common_many rank c (equal_arity (sym p.sorted.1 ∙ q.sorted.1))
-
-      nil_by_bytes : (ws : Terms) (w : List ℕ) → prefix ws ≡ w → length w ≡ 0 → ws ≡ nil
-      nil_by_bytes nil w e z = refl
-      nil_by_bytes (cons x ws) w e z = absurd (omega (arith, ap length e, length-append (prefix x) (prefix ws), prefix_length x, size_pos x))
 
       nil_by_many : (ws : Terms) → how_many ws ≡ 0 → ws ≡ nil
       nil_by_many nil e = refl
@@ -220,14 +216,14 @@ module _ (sig : Arities) where
           let e : us ≡ vs = common_same rank c (a ∙ sym b) in
           says_no (Greater rank (node f us) (node f vs)) (λ g. irreflexive rank (node f vs) (subst (λ w. Greater rank (node f w) (node f vs)) e g))
 
-      pub left_ends : length s ≤ i → Decides false (Greater rank (node f us) (node f vs))
-      left_ends h =
-          let a = nil_by_bytes xs (drop i s) ex (omega (arith, length-drop i s)) in
+      pub left_ends : FirstTerm sig 4 (take (length s - i) (drop i s)) None → Decides false (Greater rank (node f us) (node f vs))
+      left_ends none =
+          let a = no_terms (take (length s - i) (drop i s)) none xs (sorted_left c p.sorted.2) (ex ∙ sym (take_rest s i)) in
           all_same a (nil_by_many ys (omega (arith, as_many, ap how_many a)))
 
-      pub right_ends : length t ≤ i → Decides false (Greater rank (node f us) (node f vs))
-      right_ends h =
-          let b = nil_by_bytes ys (drop i t) ey (omega (arith, length-drop i t)) in
+      pub right_ends : FirstTerm sig 4 (take (length t - i) (drop i t)) None → Decides false (Greater rank (node f us) (node f vs))
+      right_ends none =
+          let b = no_terms (take (length t - i) (drop i t)) none ys (sorted_right c q.sorted.2) (ey ∙ sym (take_rest t i)) in
           all_same (nil_by_many xs (omega (arith, as_many, ap how_many b))) b
 
   some_same : {m n : ℕ} → ◌≡◌ {A = Option ℕ} (Some m) (Some n) → m ≡ n
@@ -250,14 +246,6 @@ module _ (sig : Arities) where
     pub xs_rest : prefix xs ≡ drop (i + m) s
     pub ys_rest : prefix ys ≡ drop (i + n) t
 
-  sorted_left : {us vs xs ys : Terms} → Common us vs xs ys → WellSorted sig 4 us → WellSorted sig 4 xs
-  sorted_left from_the_start w = w
-  sorted_left (one_more c) w = (sorted_left c w).1
-
-  sorted_right : {us vs xs ys : Terms} → Common us vs xs ys → WellSorted sig 4 vs → WellSorted sig 4 ys
-  sorted_right from_the_start w = w
-  sorted_right (one_more c) w = (sorted_right c w).1
-
   -- one side of what comes next
   next_reads : (s : List ℕ) (i m : ℕ) (x : Term) (xs : Terms) → WellSorted sig 4 (cons x xs) → prefix (cons x xs) ≡ drop i s → m ≡ size x → Reads sig 4 (take ((i + m) - i) (drop i s)) x
   next_reads s i m x xs w e d =
@@ -268,17 +256,15 @@ module _ (sig : Arities) where
   next_rest s i m x xs e d = sym (drop_at (prefix x) (prefix xs) m (prefix_length x ∙ sym d)) ∙ ap (drop m) e ∙ drop-drop m i s
 
   pub ahead : (rank : ℕ → ℕ) (s t : List ℕ) (i f : ℕ) (us vs xs ys : Terms) (p : Reads sig 4 s (node f us)) (q : Reads sig 4 t (node f vs)) (c : Common us vs xs ys) (ex : prefix xs ≡ drop i s) (ey : prefix ys ≡ drop i t)
-      → i < length s → i < length t → (m n : ℕ)
-      → ((x : Term) (zs : Terms) → WellSorted sig 4 (cons x zs) → prefix (cons x zs) ≡ take (length s - i) (drop i s) → m ≡ size x)
-      → ((x : Term) (zs : Terms) → WellSorted sig 4 (cons x zs) → prefix (cons x zs) ≡ take (length t - i) (drop i t) → n ≡ size x)
+      → (m n : ℕ) → FirstTerm sig 4 (take (length s - i) (drop i s)) (Some m) → FirstTerm sig 4 (take (length t - i) (drop i t)) (Some n)
       → Ahead s t i m n us vs
-  ahead rank s t i f us vs nil ys p q c ex ey hs ht m n fs ft = absurd (omega (arith, ap length ex, length-drop i s))
-  ahead rank s t i f us vs (cons x xs) nil p q c ex ey hs ht m n fs ft = absurd (omega (arith, ap length ey, length-drop i t))
-  ahead rank s t i f us vs (cons x xs) (cons y ys) p q c ex ey hs ht m n fs ft =
+  ahead rank s t i f us vs nil ys p q c ex ey m n fs ft = absurd (no_nil rank (take (length s - i) (drop i s)) m fs (ex ∙ sym (take_rest s i)))
+  ahead rank s t i f us vs (cons x xs) nil p q c ex ey m n fs ft = absurd (no_nil rank (take (length t - i) (drop i t)) n ft (ey ∙ sym (take_rest t i)))
+  ahead rank s t i f us vs (cons x xs) (cons y ys) p q c ex ey m n fs ft =
       let wx = sorted_left c p.sorted.2 in
       let wy = sorted_right c q.sorted.2 in
-      let dx = fs x xs wx (ex ∙ sym (take_rest s i)) in
-      let dy = ft y ys wy (ey ∙ sym (take_rest t i)) in
+      let dx = first_size (take (length s - i) (drop i s)) m fs x xs wx (ex ∙ sym (take_rest s i)) in
+      let dy = first_size (take (length t - i) (drop i t)) n ft y ys wy (ey ∙ sym (take_rest t i)) in
       let k : how_many us ≡ how_many vs = some_same (sym p.sorted.1 ∙ q.sorted.1) in
       record {
         x = x;
@@ -298,12 +284,6 @@ module _ (sig : Arities) where
       }
 
   module _ (rank : ℕ → ℕ) (s t : List ℕ) (i m n f : ℕ) (us vs : Terms) (p : Reads sig 4 s (node f us)) (q : Reads sig 4 t (node f vs)) (a : Ahead s t i m n us vs) where
-    pub left_something : m ≡ 0 → ⊥
-    left_something z = omega (arith, size_pos a.x, a.x_size)
-
-    pub right_something : n ≡ 0 → ⊥
-    right_something z = omega (arith, size_pos a.y, a.y_size)
-
     -- the same argument on both sides is passed over
     pub next_same : (r : Bool) → take ((i + m) - i) (drop i s) ≡ take ((i + n) - i) (drop i t)
         → ((f : ℕ) (us vs xs ys : Terms) → Reads sig 4 s (node f us) → Reads sig 4 t (node f vs) → Common us vs xs ys → prefix xs ≡ drop (i + m) s → prefix ys ≡ drop (i + m) t → Decides r (Greater rank (node f us) (node f vs)))
@@ -321,14 +301,11 @@ module _ (sig : Arities) where
         → ((z : Term) (zs : Terms) → Reads sig 4 s z → WellSorted sig 4 zs → prefix zs ≡ take (length t - (i + n)) (drop (i + n) t) → Decides r (GreaterThanAll rank z zs))
         → Decides r (Greater rank (node f us) (node f vs))
     next_greater g r e H L =
-        let above = yes_of g (Greater rank a.x a.y) e (H a.x a.y a.x_reads a.y_reads) in
-        says_as r (GreaterThanAll rank (node f us) a.ys) (Greater rank (node f us) (node f vs))
-        (greater_there rank f a.x a.y a.common a.as_many above)
-        (λ h. rest_of (node f us) (cons a.y a.ys) (later_below rank f a.common h) refl)
-        (L (node f us) a.ys p a.ys_sorted (a.ys_rest ∙ sym (take_rest t (i + n))))
+        let above = (H a.x a.y a.x_reads a.y_reads).0 e in
+        Decides-like r (greater_there rank f a.x a.y a.common a.as_many above) (λ h. rest_of (node f us) (cons a.y a.ys) (later_below rank f a.common h) refl) (L (node f us) a.ys p a.ys_sorted (a.ys_rest ∙ sym (take_rest t (i + n))))
       where
         rest_of : (c : Term) (ws : Terms) → GreaterThanAll rank c ws → ws ≡ cons a.y a.ys → GreaterThanAll rank c a.ys
-        rest_of c ws than_none d = let z : ◌≡◌ {A = ℕ} 0 1 = cc in absurd (omega arith)
+        rest_of c ws than_none d = cc
         rest_of c ws (than_next {ts = rest} g k) d = let w : rest ≡ a.ys = cc in subst (GreaterThanAll rank c) w k
 
     -- else only a later argument can do
@@ -336,9 +313,6 @@ module _ (sig : Arities) where
         → ((zs : Terms) (b : Term) → WellSorted sig 4 zs → prefix zs ≡ take (length s - (i + m)) (drop (i + m) s) → Reads sig 4 t b → Decides r (SomeAtLeast rank zs b))
         → Decides r (Greater rank (node f us) (node f vs))
     next_less g r e d H L =
-        let less = no_of g (Greater rank a.x a.y) e (H a.x a.y a.x_reads a.y_reads) in
+        let less = not_from_Decides g (H a.x a.y a.x_reads a.y_reads) e in
         let differ : a.x ≡ a.y → ⊥ = λ same. d (sym a.x_reads.form ∙ ap prefix same ∙ a.y_reads.form) in
-        says_as r (SomeAtLeast rank a.xs (node f vs)) (Greater rank (node f us) (node f vs))
-        (later_suffices rank f us vs a.x a.y a.xs a.ys a.common differ less)
-        (only_later rank f us vs a.x a.y a.xs a.ys a.common differ less)
-        (L a.xs (node f vs) a.xs_sorted (a.xs_rest ∙ sym (take_rest s (i + m))) q)
+        Decides-like r (later_suffices rank f us vs a.x a.y a.xs a.ys a.common differ less) (only_later rank f us vs a.x a.y a.xs a.ys a.common differ less) (L a.xs (node f vs) a.xs_sorted (a.xs_rest ∙ sym (take_rest s (i + m))) q)

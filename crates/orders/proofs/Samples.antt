@@ -32,7 +32,7 @@ first_there c (suc i) h = absurd (omega (arith, h))
 polynomials_given : Answered polynomial_questions (multiplied_by 3) 3
 unfolding polynomial_from
 polynomials_given = record {
-  all_pass = ((record { declared = λ e. let z : ◌≡◌ {A = ℕ} 0 1 = cc in omega arith; first = λ h. h }, (one_fits 3 (lit≤ tt) (lit≤ tt), (first_there 3, tt))), tt);
+  all_pass = ((record { declared = λ e. cc; first = λ h. h }, (one_fits 3 (lit≤ tt) (lit≤ tt), (first_there 3, tt))), tt);
   all_have = (inl refl, tt);
 }
 
@@ -44,7 +44,7 @@ zero_refused = inl (record {
   rest = [];
   fields_are = refl;
   good = tt;
-  first_no = inr (record { declared = λ e. let z : ◌≡◌ {A = ℕ} 0 1 = cc in omega arith; first = λ h. h }, inl ((λ f. omega (arith, f.0.least)), refl));
+  first_no = inr (record { declared = λ e. cc; first = λ h. h }, inl ((λ f. omega (arith, f.0.least)), refl));
   offset = refl;
 })
 
@@ -54,7 +54,7 @@ polynomial_is = refl
 
 pub figures_hold_and_fail : FiguresHoldAndFail
 figures_hold_and_fail = record {
-  ranks_given = record { all_first = (record { declared = λ e. let z : ◌≡◌ {A = ℕ} 0 1 = cc in omega arith; first = λ h. h }, tt); all_have = (inl refl, tt) };
+  ranks_given = record { all_first = (record { declared = λ e. cc; first = λ h. h }, tt); all_have = (inl refl, tt) };
   rank_is = refl;
   no_rank = inr (refl, record { all_first = tt; before = []; field = _; rest = []; symbols_are = refl; good = tt; no = λ h. h; offset = refl });
   not_ranked = λ f. f.all_have.0;

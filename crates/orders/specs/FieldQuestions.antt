@@ -1,8 +1,10 @@
 -- What is asked of the fields that give an order its figures, by a list of questions: each is for a code, and has its figures behind the code.
-use Rattle.std.specs.Prelude.{◌≡◌, ℕ, ◌+◌, ◌<◌, cond, List, [], ◌∷◌, ◌++◌, ◌==◌, slice_index}
+use Rattle.std.specs.Prelude.{◌≡◌, ℕ, ◌+◌, cond, ◌⊎◌, List, [], ◌∷◌, ◌++◌, Some, None, Option, ◌==◌}
 use Rattle.terms.specs.Prefix.{Arities}
 use Rattle.terms.specs.Question.{Question, AllYes, FirstNo}
 use Rattle.book.specs.Meaning.{code, Located, fields_of, signature_of}
+use Rattle.book.specs.Places.{place_of}
+use Rattle.book.specs.declared.places.Places.{Places}
 use Rattle.orders.specs.Figures.{HasField, AllHave}
 
 -- the questions of a field, of a book with a signature, behind the fields `before` of the same tag
@@ -39,13 +41,18 @@ pub record NoFigures (bs : List ℕ) (tag at : ℕ) : Type 0 where
   pub no : HasField (code field.field) (fields_of bs tag) → ⊥
   pub offset : at ≡ field.offset
 
+-- The first no has the number n and carries the offset `at`: it is said to a field, or to a symbol by the last question, whose number is `last`.
+abbrev pub FiguresRefused : Asked → List ℕ → ℕ → ℕ → ℕ → ℕ → Type 0
+FiguresRefused asked bs tag last n at =
+    FieldRefused asked bs tag n at ⊎ ((n ≡ last) × AllPass asked (signature_of bs) [] (fields_of bs tag) × NoFigures bs tag at)
+
 -- ── tables of places ──
 
--- the place of the figures of a code in the bytes, and 0, where no figures stand, if there are none
-abbrev pub figure_place : List Located → ℕ → ℕ
-figure_place [] c = 0
-figure_place (l ∷ ls) c = cond (code l.field == c) (l.offset + 4) (figure_place ls c)
+-- the place of the figures of a code in the bytes, by the first field for it
+abbrev pub figure_place : List Located → ℕ → Option ℕ
+figure_place [] c = None
+figure_place (l ∷ ls) c = cond (code l.field == c) (Some (l.offset + 4)) (figure_place ls c)
 
 -- a table of these places
-abbrev pub FigurePlaces : List ℕ → List Located → Type 0
-FigurePlaces places ls = (c : ℕ) → c < 128 → slice_index places c ≡ figure_place ls c
+abbrev pub FigurePlaces : Places → List Located → Type 0
+FigurePlaces places ls = (c : ℕ) → place_of places c ≡ figure_place ls c

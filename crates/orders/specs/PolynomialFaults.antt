@@ -1,9 +1,8 @@
 -- Why a book gives no polynomial order: the number of the question that says no, and the offset that the fault carries.
-use Rattle.std.specs.Prelude.{◌≡◌, ℕ, ◌⊎◌, List, []}
+use Rattle.std.specs.Prelude.{ℕ, List}
 use Rattle.orders.specs.declared.polynomial_fault.PolynomialFault.{PolynomialFault}
 use Rattle.orders.specs.declared.polynomial_fault.PolynomialFault.TheVariants.{NotFirst, BadMonomial, NoArgument, NoPolynomial}
-use Rattle.book.specs.Meaning.{signature_of, fields_of}
-use Rattle.orders.specs.FieldQuestions.{AllPass, FieldRefused, NoFigures}
+use Rattle.orders.specs.FieldQuestions.{FiguresRefused}
 use Rattle.orders.specs.Polynomials.{polynomial_questions}
 
 -- the number of each fault
@@ -22,6 +21,4 @@ offset_of (NoPolynomial at) = at
 
 -- The first no to the polynomials of a book has the number n and carries the offset `at`; 11: for each symbol there is a polynomial.
 abbrev pub PolynomialsRefused : List ℕ → ℕ → ℕ → Type 0
-PolynomialsRefused bs n at =
-    FieldRefused polynomial_questions bs 3 n at
-    ⊎ ((n ≡ 11) × AllPass polynomial_questions (signature_of bs) [] (fields_of bs 3) × NoFigures bs 3 at)
+PolynomialsRefused bs = FiguresRefused polynomial_questions bs 3 11

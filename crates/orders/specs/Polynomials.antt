@@ -1,9 +1,11 @@
 -- The polynomials of a book's symbols.
-use Rattle.std.specs.Prelude.{◌≡◌, ℕ, ◌+◌, ◌-◌, ◌<◌, ◌≤◌, cond, ◌⊎◌, List, [], ◌∷◌, ◌++◌, length, take, drop, ◌==◌, nat_lt, slice_index}
+use Rattle.std.specs.Prelude.{◌≡◌, ℕ, ◌+◌, ◌-◌, ◌<◌, ◌≤◌, cond, ◌⊎◌, List, [], ◌∷◌, ◌++◌, length, take, drop, Some, None, Option, ◌==◌}
 use Rattle.std.specs.Option.{unwrap_or}
 use Rattle.terms.specs.Question.{Question}
 use Rattle.book.specs.Format.{BookField, value_length}
 use Rattle.book.specs.Meaning.{code, Located, fields_of}
+use Rattle.book.specs.Places.{place_of}
+use Rattle.book.specs.declared.places.Places.{Places}
 use Rattle.polynomials.specs.Polynomial.{Exponents, exponent, Monomial, Polynomial, degree}
 use Rattle.polynomials.specs.Interpretation.{Interpretation}
 use Rattle.polynomials.specs.Coding.{polynomial_from}
@@ -62,13 +64,14 @@ polynomial_questions sig before l =
 abbrev pub length_before : List ℕ → ℕ → ℕ
 length_before bs p = value_length (drop (p - 4) bs)
 
--- the monomials that begin at a place of the bytes, behind the code
-abbrev pub monomials_from : List ℕ → ℕ → List ℕ
-monomials_from bs p = cond (p == 0) [] (take (length_before bs p - 1) (drop p bs))
+-- the monomials that begin at a place of the bytes, behind the code, and none where there is no place
+abbrev pub monomials_from : List ℕ → Option ℕ → List ℕ
+monomials_from bs None = []
+monomials_from bs (Some p) = take (length_before bs p - 1) (drop p bs)
 
 -- the monomials of a code by a table of places
-abbrev pub monomials_of : List ℕ → List ℕ → ℕ → List ℕ
-monomials_of bs places c = cond (nat_lt c 128) (monomials_from bs (slice_index places c)) []
+abbrev pub monomials_of : List ℕ → Places → ℕ → List ℕ
+monomials_of bs places c = monomials_from bs (place_of places c)
 
 -- the monomials at a place stand whole in the bytes
 abbrev pub Whole : List ℕ → ℕ → Type 0

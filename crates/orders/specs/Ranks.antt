@@ -1,6 +1,10 @@
 -- The ranks of a book's symbols.
-use Rattle.std.specs.Prelude.{◌≡◌, ℕ, ◌+◌, ◌<◌, cond, List, [], ◌∷◌, ◌==◌, nat_lt, slice_index}
+use Rattle.std.specs.Prelude.{ℕ, cond, List, [], ◌∷◌, Some, None, Option, ◌==◌, slice_index}
 use Rattle.book.specs.Meaning.{Located, fields_of}
+use Rattle.book.specs.Places.{place_of}
+use Rattle.book.specs.declared.places.Places.{Places}
+use Rattle.orders.specs.Figures.{FirstFor}
+use Rattle.orders.specs.FieldQuestions.{Asked}
 
 -- the rank of a code by the first field that gives it one, and 0 if none does; a field of a rank has a code and a rank
 abbrev pub rank_by : List Located → ℕ → ℕ
@@ -11,19 +15,17 @@ rank_by (l ∷ ls) c = cond (slice_index l.field.value 0 == c) (slice_index l.fi
 abbrev pub rank_of : List ℕ → ℕ → ℕ
 rank_of bs = rank_by (fields_of bs 4)
 
--- the place of the rank of a code in the bytes, and 0, where no rank stands, if there is none
-abbrev pub rank_place : List Located → ℕ → ℕ
-rank_place [] c = 0
-rank_place (l ∷ ls) c = cond (slice_index l.field.value 0 == c) (l.offset + 4) (rank_place ls c)
+-- the one question of such a field, 12: its code is declared, and it is the first for it
+abbrev pub rank_questions : Asked
+rank_questions sig before l = record { number = 12; asks = FirstFor sig before l } ∷ []
 
--- a table of these places
-abbrev pub PlacesOf : List ℕ → List Located → Type 0
-PlacesOf places ls = (c : ℕ) → c < 128 → slice_index places c ≡ rank_place ls c
+-- ── by a table of places ──
 
--- the rank at a place
-abbrev pub rank_at : List ℕ → ℕ → ℕ
-rank_at bs p = cond (p == 0) 0 (slice_index bs p)
+-- the rank at a place, and 0 where there is no place
+abbrev pub rank_at : List ℕ → Option ℕ → ℕ
+rank_at bs None = 0
+rank_at bs (Some p) = slice_index bs p
 
 -- the rank of a code by a table of places
-abbrev pub rank_in : List ℕ → List ℕ → ℕ → ℕ
-rank_in bs ranks c = cond (nat_lt c 128) (rank_at bs (slice_index ranks c)) 0
+abbrev pub rank_in : List ℕ → Places → ℕ → ℕ
+rank_in bs ranks c = rank_at bs (place_of ranks c)

@@ -1,6 +1,7 @@
 // The fence: an order over any order, for the rules of a rewrite system.
 ghost use Rattle.std.specs.Prelude.{◌≡◌};
-ghost use Rattle.order_theory.specs.Fence.{has, is_known, keeps_variables, is_proper, fence_grade};
+ghost use Rattle.std.specs.List.{list_all};
+ghost use Rattle.order_theory.specs.Fence.{is_known, is_proper, fence_grade};
 ghost use Rattle.order_theory.proofs.Fences.{fence_keeps_the_laws};
 
 use crate::order::{MALFORMED, Order};
@@ -9,48 +10,28 @@ use terms::prefix::VARIABLE;
 // The grade of a left side that is a variable, and of a right side with a variable that the left lacks.
 const IMPROPER: u8 = 9;
 
-// Whether the byte is one of the bytes.
-fn has(bytes: &[u8], byte: u8) -> bool
-    ensures { result ≡ has byte bytes.now }
-{
-    for b in bytes {
-        if *b == byte {
-            return true;
-        }
-    }
-    false
-}
-
 // Whether the byte is a code, or a variable of the left side.
 fn is_known(left: &[u8], byte: u8) -> bool
     ensures { result ≡ is_known left.now byte }
 {
-    byte < VARIABLE || has(left, byte)
+    byte < VARIABLE || left.contains(&byte)
 }
 
 // Whether each variable of the right side is one of the left side.
 fn keeps_variables(left: &[u8], right: &[u8]) -> bool
-    ensures { result ≡ keeps_variables left.now right.now }
+    ensures { result ≡ list_all (is_known left.now) right.now }
 {
-    for byte in right {
-        if !is_known(left, *byte) {
-            return false;
-        }
-    }
-    true
+    right.iter().all(|byte| is_known(left, *byte))
 }
 
 // Whether the left side is no variable, and the right side has no variable that the left lacks.
 fn is_proper(left: &[u8], right: &[u8]) -> bool
     ensures { result ≡ is_proper left.now right.now }
 {
-    if left.is_empty() {
+    let Some(head) = left.first() else {
         return false;
-    }
-    if left[0] >= VARIABLE {
-        return false;
-    }
-    keeps_variables(left, right)
+    };
+    *head < VARIABLE && keeps_variables(left, right)
 }
 
 // An order that grades a pair 9 that can be no rule's, and else as the order beneath.

@@ -1,6 +1,7 @@
 // Orders on terms.
 #![tactic(auto)]
 
+pub mod book_order;
 mod comparing;
 pub mod fence;
 mod figures;

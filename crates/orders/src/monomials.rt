@@ -1,95 +1,68 @@
-// Whether the monomials of a symbol are what an order can use.
-ghost use Rattle.std.specs.Prelude.{◌≡◌, ℕ, ◌+◌, ◌*◌, ◌/◌, ◌<◌, ◌≤◌, [], length, Decides};
-ghost use Rattle.polynomials.specs.Polynomial.{degree, exponent};
-ghost use Rattle.polynomials.specs.Coding.{monomial_at, monomials_at, polynomial_from};
-ghost use Rattle.orders.specs.Polynomials.{HasExponents, MonomialFits, MonomialsFit, HasArguments};
+// Whether monomials are those of a symbol's polynomial.
+ghost use Rattle.std.specs.Prelude.{◌≡◌, ℕ, ◌<◌, ◌≤◌, [], Decides};
+ghost use Rattle.polynomials.specs.Polynomial.{exponent, degree};
+ghost use Rattle.polynomials.specs.Coding.{polynomial_from};
+ghost use Rattle.polynomials.specs.Meant.{meant};
+ghost use Rattle.orders.specs.Polynomials.{HasExponents, MonomialsFit, HasArguments};
 
-// A monomial has so many bytes: four of its factor, and an exponent for each argument.
-const MONOMIAL: usize = 7;
+use polynomials::monomial::{Monomial, Monomials};
 
-// Whether the factor at a place is from 1 to 65535: its two high bytes are 0, the low ones not both.
-fn factor_fits(monomials: &[u8], place: usize) -> bool
-    requires { place + 7 ≤ length monomials.now }
-    ensures { Decides result ((1 ≤ (monomial_at monomials.now place).factor) × ((monomial_at monomials.now place).factor ≤ 65535)) }
-{
-    if monomials[place] != 0 || monomials[place + 1] != 0 {
-        return false;
-    }
-    monomials[place + 2] != 0 || monomials[place + 3] != 0
-}
+// The greatest factor, and the greatest exponent.
+const FACTOR_LIMIT: u32 = 65_535;
 
-// Whether the exponent of the argument i is at most 3, and 0 if there are not so many arguments.
+const EXPONENT_LIMIT: u8 = 3;
+
+// Whether the exponent of the argument i is small, and 0 if there is no such argument.
 fn exponent_fits(arity: u8, i: u8, exponent: u8) -> bool
     ensures { Decides result ((exponent ≤ 3) × (arity ≤ i → exponent ≡ 0)) }
 {
-    if exponent > 3 {
-        return false;
-    }
-    i < arity || exponent == 0
+    exponent <= EXPONENT_LIMIT && (i < arity || exponent == 0)
 }
 
-// Whether the exponents at a place are so.
-fn exponents_fit(arity: u8, monomials: &[u8], place: usize) -> bool
-    requires { place + 7 ≤ length monomials.now }
-    ensures { Decides result (((i : ℕ) → exponent i (monomial_at monomials.now place).exponents ≤ 3) × ((i : ℕ) → arity ≤ i → exponent i (monomial_at monomials.now place).exponents ≡ 0)) }
+// Whether the exponents are so.
+fn exponents_fit(arity: u8, monomial: &Monomial) -> bool
+    ensures { Decides result (((i : ℕ) → exponent i (meant monomial.now).exponents ≤ 3) × ((i : ℕ) → arity ≤ i → exponent i (meant monomial.now).exponents ≡ 0)) }
 {
-    if !exponent_fits(arity, 0, monomials[place + 4]) {
+    let [e0, e1, e2] = monomial.exponents;
+    if !exponent_fits(arity, 0, e0) {
         return false;
     }
-    if !exponent_fits(arity, 1, monomials[place + 5]) {
+    if !exponent_fits(arity, 1, e1) {
         return false;
     }
-    exponent_fits(arity, 2, monomials[place + 6])
+    exponent_fits(arity, 2, e2)
 }
 
-// Whether the exponents at two places are the same.
-fn same_exponents(monomials: &[u8], a: usize, b: usize) -> bool
-    requires first { a + 7 ≤ length monomials.now }
-    requires second { b + 7 ≤ length monomials.now }
-    ensures { Decides result ((monomial_at monomials.now a).exponents ≡ (monomial_at monomials.now b).exponents) }
+// Whether the factor is from 1 to the limit, and the exponents fit.
+fn fits_alone(arity: u8, monomial: &Monomial) -> bool
+    ensures { Decides result (((1 ≤ monomial.now.factor) × (monomial.now.factor ≤ 65535))
+        × (((i : ℕ) → exponent i (meant monomial.now).exponents ≤ 3) × ((i : ℕ) → arity ≤ i → exponent i (meant monomial.now).exponents ≡ 0))) }
 {
-    if monomials[a + 4] != monomials[b + 4] {
-        return false;
-    }
-    if monomials[a + 5] != monomials[b + 5] {
-        return false;
-    }
-    monomials[a + 6] == monomials[b + 6]
+    (1..=FACTOR_LIMIT).contains(&monomial.factor) && exponents_fit(arity, monomial)
 }
 
-// Whether one of the first k monomials has the exponents of the next.
-fn has_exponents(monomials: &[u8], k: usize) -> bool
-    requires { k < length monomials.now / 7 }
-    ensures { Decides result (HasExponents (monomial_at monomials.now (7 * k)).exponents (monomials_at k 0 monomials.now)) }
+// Whether one of the monomials has the exponents of this one.
+fn has_exponents(monomials: Monomials, of: &Monomial) -> bool
+    ensures { Decides result (HasExponents (meant of.now).exponents (polynomial_from monomials.entry.bytes.now)) }
 {
-    for j in 0..k {
-        if same_exponents(monomials, MONOMIAL * j, MONOMIAL * k) {
+    for monomial in monomials {
+        if monomial.exponents == of.exponents {
             return true;
         }
     }
     false
 }
 
-// Whether the monomial behind the first k fits.
-fn monomial_fits(arity: u8, monomials: &[u8], k: usize) -> bool
-    requires { k < length monomials.now / 7 }
-    ensures { Decides result (MonomialFits arity (monomials_at k 0 monomials.now) (monomial_at monomials.now (7 * k))) }
+// Whether each monomial fits, and no two have the same exponents.
+pub(crate) fn monomials_fit(arity: u8, monomials: Monomials) -> bool
+    ensures { Decides result (MonomialsFit arity [] (polynomial_from monomials.entry.bytes.now)) }
 {
-    if !factor_fits(monomials, MONOMIAL * k) {
-        return false;
-    }
-    if !exponents_fit(arity, monomials, MONOMIAL * k) {
-        return false;
-    }
-    !has_exponents(monomials, k)
-}
-
-// Whether each monomial fits.
-pub(crate) fn monomials_fit(arity: u8, monomials: &[u8]) -> bool
-    ensures { Decides result (MonomialsFit arity [] (polynomial_from monomials.now)) }
-{
-    for k in 0..monomials.len() / MONOMIAL {
-        if !monomial_fits(arity, monomials, k) {
+    let mut rest = monomials;
+    while let Some(monomial) = rest.next() {
+        if !fits_alone(arity, &monomial) {
+            return false;
+        }
+        if has_exponents(rest, &monomial) {
             return false;
         }
     }
@@ -97,12 +70,12 @@ pub(crate) fn monomials_fit(arity: u8, monomials: &[u8]) -> bool
 }
 
 // Whether some monomial has the argument i.
-fn has_argument(monomials: &[u8], i: u8) -> bool
+fn has_argument(monomials: Monomials, i: u8) -> bool
     requires { i < 3 }
-    ensures { Decides result (1 ≤ degree i (polynomial_from monomials.now)) }
+    ensures { Decides result (1 ≤ degree i (polynomial_from monomials.entry.bytes.now)) }
 {
-    for k in 0..monomials.len() / MONOMIAL {
-        if monomials[MONOMIAL * k + 4 + i as usize] != 0 {
+    for monomial in monomials {
+        if monomial.exponents[i as usize] != 0 {
             return true;
         }
     }
@@ -110,9 +83,9 @@ fn has_argument(monomials: &[u8], i: u8) -> bool
 }
 
 // Whether the monomials have each of the arguments.
-pub(crate) fn has_arguments(arity: u8, monomials: &[u8]) -> bool
+pub(crate) fn has_arguments(arity: u8, monomials: Monomials) -> bool
     requires { arity ≤ 3 }
-    ensures { Decides result (HasArguments arity (polynomial_from monomials.now)) }
+    ensures { Decides result (HasArguments arity (polynomial_from monomials.entry.bytes.now)) }
 {
     for i in 0..arity {
         if !has_argument(monomials, i) {

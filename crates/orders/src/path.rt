@@ -1,5 +1,5 @@
 // The path order of a book.
-ghost use Rattle.std.specs.Prelude.{◌≡◌, ℕ, [], MatchResult};
+ghost use Rattle.std.specs.Prelude.{◌≡◌, ℕ, [], MatchResult, refl};
 ghost use Rattle.book.specs.Meaning.{signature_of};
 ghost use Rattle.order_theory.specs.Path.{Greater};
 ghost use Rattle.orders.specs.Figures.{Figured};
@@ -8,50 +8,63 @@ ghost use Rattle.orders.specs.Ranks.{rank_in, rank_of};
 ghost use Rattle.order_theory.specs.Grade.{path_grade};
 ghost use Rattle.order_theory.proofs.PathLaws.{path_order_keeps_the_laws};
 
-use crate::comparing::greater;
-use crate::order::Order;
+use crate::book_order::{BookOrder, are_sides};
+use crate::figures::figures_of;
+use crate::order::{MALFORMED, Order};
 use crate::path_fault::PathFault;
-use crate::ranks::{ranks_of, unranked_symbol};
 use book::book::Book;
-use book::side::is_side;
+use book::places::Places;
 use terms::prefix::Signature;
 
-// The grade of a pair that is no pair of sides of rules.
-const MALFORMED: u8 = 8;
+// The grades of a pair of sides: the left is greater, or it is not.
+const GREATER: u8 = 0;
+
+const NOT_GREATER: u8 = 1;
 
 // `ranks` has the place of each code's rank in the book's bytes.
 #[derive(Clone, Copy)]
 pub struct Path<'a> {
     pub(crate) book: Book<'a>,
-    pub(crate) ranks: [u16; 128],
+    pub(crate) ranks: Places,
     ghost ranked: { (c : ℕ) → rank_in book.tables.bytes.now ranks c ≡ rank_of book.tables.bytes.now c },
 }
 
-impl<'a> Path<'a> {
+impl<'a> BookOrder<'a> for Path<'a> {
+    type Fault = PathFault;
+
+    ghost accepted = { λ bs. Figured bs 4 };
+
+    ghost refused = { RanksRefused };
+
+    ghost made_of = { λ p. p.book };
+
+    ghost grade_of = { λ bs. path_grade (signature_of bs) (rank_of bs) };
+
     // The path order of the empty book.
-    pub fn empty() -> Path<'a>
+    fn empty() -> Path<'a>
         ensures { result.book.tables.bytes.now ≡ [] }
     {
         Path {
             book: Book::empty(),
-            ranks: [0; 128],
+            ranks: Places::new(),
         }
     }
 
     // Becomes the path order of the book if each symbol has one rank, else says which question says the first no, and stays as it is.
-    pub fn make(&mut self, book: &Book<'a>) -> Result<(), PathFault>
+    fn make(&mut self, book: &Book<'a>) -> Result<(), PathFault>
         ensures answer { MatchResult result
             (λ _. Figured book.now.tables.bytes.now 4)
             (λ e. RanksRefused book.now.tables.bytes.now (number_of e) (offset_of e)) }
         ensures place { MatchResult result (λ _. self.new.book ≡ book.now) (λ _. self.new ≡ self.old) }
     {
-        let ranks = ranks_of(book)?;
-        if let Some(at) = unranked_symbol(book, &ranks) {
-            return Err(PathFault::NoRank(at));
-        }
+        let ranks = figures_of::<PathFault>(book)?;
         *self = Path { book: *book, ranks };
         Ok(())
     }
+
+    ghost signature_is = { λ p. refl };
+
+    ghost grade_is = { λ p. refl };
 }
 
 impl<'a> Order for Path<'a> {
@@ -78,12 +91,13 @@ impl<'a> Order for Path<'a> {
     }
 
     fn weigh(&self, left: &[u8], right: &[u8]) -> u8 {
-        if !is_side(&self.book, left) {
+        if !are_sides(&self.book, left, right) {
             return MALFORMED;
         }
-        if !is_side(&self.book, right) {
-            return MALFORMED;
+        if self.greater(left, right) {
+            GREATER
+        } else {
+            NOT_GREATER
         }
-        if greater(self, left, right) { 0 } else { 1 }
     }
 }

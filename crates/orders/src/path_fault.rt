@@ -2,6 +2,8 @@
 ghost use Rattle.std.specs.Prelude.{◌≡◌};
 ghost use Rattle.orders.specs.PathFaults.{number_of, offset_of};
 
+use crate::book_order::FigureFault;
+
 // Each case carries an offset: of the field of a rank, or of the symbol that has none.
 #[derive(Clone, Copy, PartialEq, Eq, Debug)]
 pub enum PathFault {
@@ -9,9 +11,13 @@ pub enum PathFault {
     NoRank(usize),
 }
 
-impl PathFault {
+impl FigureFault for PathFault {
+    ghost question = { number_of };
+
+    ghost field_at = { offset_of };
+
     // The number of the question that says no.
-    pub fn number(&self) -> u8
+    fn number(&self) -> u8
         ensures { result ≡ number_of self.now }
     {
         match self {
@@ -21,12 +27,11 @@ impl PathFault {
     }
 
     // The offset of the field.
-    pub fn offset(&self) -> usize
+    fn offset(&self) -> usize
         ensures { result ≡ offset_of self.now }
     {
         match self {
-            PathFault::BadRank(at) => *at,
-            PathFault::NoRank(at) => *at,
+            PathFault::BadRank(at) | PathFault::NoRank(at) => *at,
         }
     }
 }

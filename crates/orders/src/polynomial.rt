@@ -1,6 +1,7 @@
 // The polynomial order of a book.
-ghost use Rattle.std.specs.Prelude.{◌≡◌, ℕ, ◌<◌, [], MatchResult, ◌≢◌, slice_index};
+ghost use Rattle.std.specs.Prelude.{◌≡◌, ℕ, [], Some, MatchResult, refl};
 ghost use Rattle.book.specs.Meaning.{signature_of, fields_of};
+ghost use Rattle.book.specs.Places.{place_of};
 ghost use Rattle.polynomials.specs.Interpretation.{Proper, Over};
 ghost use Rattle.polynomials.proofs.Properness.{proper_held};
 ghost use Rattle.order_theory.specs.Grade.{polynomial_grade};
@@ -9,54 +10,65 @@ ghost use Rattle.orders.specs.FieldQuestions.{Answered};
 ghost use Rattle.orders.specs.Polynomials.{monomials_by, interpretation_of, polynomial_questions, monomials_of, Whole};
 ghost use Rattle.orders.specs.PolynomialFaults.{number_of, offset_of, PolynomialsRefused};
 
-use crate::figures::symbol_without_figures;
-use crate::interpretation::polynomials_of;
+use crate::book_order::{BookOrder, are_sides};
+use crate::figures::figures_of;
 use crate::order::{MALFORMED, Order};
 use crate::polynomial_fault::PolynomialFault;
 use book::book::Book;
-use book::side::is_side;
+use book::places::Places;
 use polynomials::grade::grade;
 use polynomials::symbols::Symbols;
-use terms::prefix::{Signature, VARIABLE};
+use terms::prefix::Signature;
 
 // `places` has the place of each code's monomials in the book's bytes.
 #[derive(Clone, Copy)]
 pub struct Polynomial<'a> {
     pub(crate) book: Book<'a>,
-    pub(crate) places: [u16; 128],
-    ghost whole: { (c : ℕ) → c < 128 → (slice_index places c ≢ 0) → Whole book.tables.bytes.now (slice_index places c) },
+    pub(crate) places: Places,
+    ghost whole: { (c p : ℕ) → place_of places c ≡ Some p → Whole book.tables.bytes.now p },
     ghost told: { (c : ℕ) → monomials_of book.tables.bytes.now places c ≡ monomials_by (fields_of book.tables.bytes.now 3) c },
     ghost proper: { ∥ Proper (signature_of book.tables.bytes.now) (interpretation_of book.tables.bytes.now) ∥₁ },
 }
 
-impl<'a> Polynomial<'a> {
+impl<'a> BookOrder<'a> for Polynomial<'a> {
+    type Fault = PolynomialFault;
+
+    ghost accepted = { λ bs. Answered polynomial_questions bs 3 };
+
+    ghost refused = { PolynomialsRefused };
+
+    ghost made_of = { λ p. p.book };
+
+    ghost grade_of = { λ bs. polynomial_grade (signature_of bs) (interpretation_of bs) };
+
     // The polynomial order of the empty book.
-    pub fn empty() -> Polynomial<'a>
+    fn empty() -> Polynomial<'a>
         ensures { result.book.tables.bytes.now ≡ [] }
     {
         Polynomial {
             book: Book::empty(),
-            places: [0; 128],
+            places: Places::new(),
         }
     }
 
     // Becomes the polynomial order of the book if each symbol has one polynomial that fits it, else says which question says the first no, and stays as it is.
-    pub fn make(&mut self, book: &Book<'a>) -> Result<(), PolynomialFault>
+    fn make(&mut self, book: &Book<'a>) -> Result<(), PolynomialFault>
         ensures answer { MatchResult result
             (λ _. Answered polynomial_questions book.now.tables.bytes.now 3)
             (λ e. PolynomialsRefused book.now.tables.bytes.now (number_of e) (offset_of e)) }
         ensures place { MatchResult result (λ _. self.new.book ≡ book.now) (λ _. self.new ≡ self.old) }
     {
-        let places = polynomials_of(book)?;
-        if let Some(at) = symbol_without_figures(book, &places) {
-            return Err(PolynomialFault::NoPolynomial(at));
-        }
+        let places = figures_of::<PolynomialFault>(book)?;
         *self = Polynomial {
             book: *book,
             places,
         };
         Ok(())
     }
+
+    ghost signature_is = { λ p. refl };
+
+    ghost grade_is = { λ p. refl };
 }
 
 impl<'a> Symbols for Polynomial<'a> {
@@ -72,15 +84,11 @@ impl<'a> Symbols for Polynomial<'a> {
 
     // The field begins four bytes before its monomials, and has the length of its value, with the code, in the second and third byte.
     fn monomials(&self, code: u8) -> &[u8] {
-        if code >= VARIABLE {
+        let Some(place) = self.places.get(code) else {
             return &[];
-        }
+        };
         let bytes = self.book.bytes();
-        let place = self.places[code as usize] as usize;
-        if place == 0 {
-            return &[];
-        }
-        let length = 256 * bytes[place - 3] as usize + bytes[place - 2] as usize;
+        let length = u16::from_be_bytes([bytes[place - 3], bytes[place - 2]]) as usize;
         &bytes[place..place + (length - 1)]
     }
 }
@@ -109,10 +117,7 @@ impl<'a> Order for Polynomial<'a> {
     }
 
     fn weigh(&self, left: &[u8], right: &[u8]) -> u8 {
-        if !is_side(&self.book, left) {
-            return MALFORMED;
-        }
-        if !is_side(&self.book, right) {
+        if !are_sides(&self.book, left, right) {
             return MALFORMED;
         }
         grade(self, left, right).unwrap_or(MALFORMED)

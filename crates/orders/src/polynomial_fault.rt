@@ -2,6 +2,8 @@
 ghost use Rattle.std.specs.Prelude.{◌≡◌};
 ghost use Rattle.orders.specs.PolynomialFaults.{number_of, offset_of};
 
+use crate::book_order::FigureFault;
+
 // Each case carries an offset: of the field of a polynomial, or of the symbol that has none.
 #[derive(Clone, Copy, PartialEq, Eq, Debug)]
 pub enum PolynomialFault {
@@ -11,9 +13,13 @@ pub enum PolynomialFault {
     NoPolynomial(usize),
 }
 
-impl PolynomialFault {
+impl FigureFault for PolynomialFault {
+    ghost question = { number_of };
+
+    ghost field_at = { offset_of };
+
     // The number of the question that says no.
-    pub fn number(&self) -> u8
+    fn number(&self) -> u8
         ensures { result ≡ number_of self.now }
     {
         match self {
@@ -25,14 +31,14 @@ impl PolynomialFault {
     }
 
     // The offset of the field.
-    pub fn offset(&self) -> usize
+    fn offset(&self) -> usize
         ensures { result ≡ offset_of self.now }
     {
         match self {
-            PolynomialFault::NotFirst(at) => *at,
-            PolynomialFault::BadMonomial(at) => *at,
-            PolynomialFault::NoArgument(at) => *at,
-            PolynomialFault::NoPolynomial(at) => *at,
+            PolynomialFault::NotFirst(at)
+            | PolynomialFault::BadMonomial(at)
+            | PolynomialFault::NoArgument(at)
+            | PolynomialFault::NoPolynomial(at) => *at,
         }
     }
 }

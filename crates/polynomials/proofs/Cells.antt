@@ -48,9 +48,6 @@ cell_at k h =
     let top : k / 4 / 4 / 4 % 4 ≡ k / 4 / 4 / 4 = mod-eq_of_lt (omega arith) in
     rw (sixteenth, sixty_fourth, top) (omega arith)
 
-pub small_at : (k : ℕ) → Small (exponents_at k)
-small_at k = record { s0 = omega arith; s1 = omega arith; s2 = omega arith; s3 = omega arith }
-
 module _ (w : Exponents → ℕ) where
   of_zero : (n : ℕ) → weighed w (of_cells (λ k. 0) n) ≡ 0
   of_zero zero = refl

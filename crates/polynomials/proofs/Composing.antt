@@ -1,15 +1,14 @@
 -- A monomial with polynomials put for its variables, factor by factor.
-use Rattle.std.proofs.Common.{◌≡◌, ℕ, zero, suc, ◌+◌, ◌*◌, ◌/◌, ◌^◌, ◌<◌, ◌≤◌, cond, List, [], ◌∷◌, length, sym, ap, ◌∙◌, subst, ap₂, inl, inr, le_refl, mul_assoc, suc-mul, mul-le-mul, pow-suc, zero-mul, mul-one, arith}
+use Rattle.std.proofs.Common.{◌≡◌, ℕ, zero, suc, ◌+◌, ◌*◌, ◌^◌, ◌≤◌, List, [], ◌∷◌, sym, ap, ◌∙◌, ap₂, inl, inr, le_refl, mul_assoc, suc-mul, mul-le-mul, pow-suc, zero-mul, mul-one, arith}
 use native.Mathlib.Nat.{pow-zero, one-le-pow, one-le-mul}
 use Rattle.std.proofs.lemmas.Bool.{cases_eq}
-use Rattle.polynomials.specs.Polynomial.{Exponents, Monomial, Polynomial, weighed, coefficient, total, degree, constant, product, power, compose_monomial, compose, same}
-use Rattle.polynomials.specs.Cells.{Holds, PowerRoom, MonomialRoom, HoldThree, Each}
-use Rattle.polynomials.specs.Coding.{monomial_at, polynomial_from}
+use Rattle.polynomials.specs.Polynomial.{Exponents, Monomial, Polynomial, weighed, coefficient, total, degree, constant, product, power, compose_monomial}
+use Rattle.polynomials.specs.Cells.{Holds, PowerRoom, MonomialRoom}
+use Rattle.polynomials.specs.Tables.{cells_at, HoldThree}
+use Rattle.polynomials.specs.declared.table.Table.{Table}
 use Rattle.polynomials.proofs.Degrees.{exponent_none}
 use Rattle.polynomials.proofs.Holding.{total_product, total_power, degree_product_le, coefficient_total}
-use Rattle.polynomials.proofs.Values.{weighed-++}
-use Rattle.polynomials.proofs.Coded.{left_from, left_all, left_more, left_none}
-use Rattle.polynomials.proofs.Algebra.{Same, product_assoc, product_right, product_one}
+use Rattle.polynomials.proofs.Identities.{Same, product_assoc, product_right, product_one}
 
 -- a lower power is no larger, unless the number is 0
 pow_lower : (t n j : ℕ) → j ≤ n → (1 ≤ n → 1 ≤ t) → t ^ j ≤ t ^ n
@@ -46,6 +45,10 @@ degree_power_le i q (suc n) = let h = degree_power_le i q n in let l = degree_pr
 total_constant : (c : ℕ) → total (constant c) ≡ c
 total_constant c = let m = mul-one c in omega arith
 
+-- r is the table a times the n-th power of the table b
+abbrev pub Times : List ℕ → List ℕ → ℕ → List ℕ → Type 0
+Times a b n r = (p q : Polynomial) → PowerRoom a b n p q → Holds r (product p (power q n))
+
 module _ (m : Monomial) (p q s : Polynomial) (fits : MonomialRoom m p q s) where
   abbrev pub one_in : Polynomial
   one_in = product (constant m.factor) (power p m.exponents.e0)
@@ -68,8 +71,8 @@ module _ (m : Monomial) (p q s : Polynomial) (fits : MonomialRoom m p q s) where
   degree_two : (i : ℕ) → degree i two_in ≤ m.exponents.e0 * degree i p + m.exponents.e1 * degree i q
   degree_two i = let a = degree_product_le i one_in (power q m.exponents.e1) in let b = degree_one i in let c = degree_power_le i q m.exponents.e1 in omega arith
 
-  module _ (a b c : List ℕ) (three : HoldThree a b c p q s) (t : List ℕ) where
-    pub room_one : Holds t (constant m.factor) → PowerRoom t a m.exponents.e0 (constant m.factor) p
+  module _ (tables : List Table) (three : HoldThree tables p q s) (t : List ℕ) where
+    pub room_one : Holds t (constant m.factor) → PowerRoom t (cells_at tables 0) m.exponents.e0 (constant m.factor) p
     room_one holds = record {
       left = holds;
       right = three.first;
@@ -81,7 +84,7 @@ module _ (m : Monomial) (p q s : Polynomial) (fits : MonomialRoom m p q s) where
           omega arith;
     }
 
-    pub room_two : Holds t one_in → PowerRoom t b m.exponents.e1 one_in q
+    pub room_two : Holds t one_in → PowerRoom t (cells_at tables 1) m.exponents.e1 one_in q
     room_two holds = record {
       left = holds;
       right = three.second;
@@ -93,7 +96,7 @@ module _ (m : Monomial) (p q s : Polynomial) (fits : MonomialRoom m p q s) where
           omega arith;
     }
 
-    pub room_three : Holds t two_in → PowerRoom t c m.exponents.e2 two_in s
+    pub room_three : Holds t two_in → PowerRoom t (cells_at tables 2) m.exponents.e2 two_in s
     room_three holds = record {
       left = holds;
       right = three.third;
@@ -105,6 +108,20 @@ module _ (m : Monomial) (p q s : Polynomial) (fits : MonomialRoom m p q s) where
           let e = ap (λ k. k * total s ^ j) total_two in
           omega arith;
     }
+
+  -- the factors one after the other, in tables
+  module _ (tables : List Table) (three : HoldThree tables p q s) (start : List ℕ) (held : Holds start (constant m.factor))
+      (one : List ℕ) (times_one : Times start (cells_at tables 0) m.exponents.e0 one) where
+    pub hold_one : Holds one one_in
+    hold_one = times_one (constant m.factor) p (room_one tables three start held)
+
+    module _ (two : List ℕ) (times_two : Times one (cells_at tables 1) m.exponents.e1 two) where
+      pub hold_two : Holds two two_in
+      hold_two = times_two one_in q (room_two tables three one hold_one)
+
+      module _ (all : List ℕ) (times_three : Times two (cells_at tables 2) m.exponents.e2 all) where
+        pub hold_three : Holds all three_in
+        hold_three = times_three two_in s (room_three tables three two hold_two)
 
   -- the three factors together are the monomial with p, q and s put for its variables
   pub three_same : m.exponents.e3 ≡ 0 → Same three_in (compose_monomial m (p ∷ q ∷ s ∷ []))
@@ -128,32 +145,3 @@ module _ (m : Monomial) (p q s : Polynomial) (fits : MonomialRoom m p q s) where
 
   pub three_room : (e : Exponents) → coefficient three_in e ≤ 2147483647
   three_room e = let h = coefficient_total three_in e in let t = three_total in let r = fits.room in omega arith
-
--- ── one monomial after the other ──
-
-module _ (Q : Monomial → Type 0) (bs : List ℕ) (all : Each Q (polynomial_from bs)) where
-  each_left : (k : ℕ) → k ≤ length bs / 7 → Each Q (left_from bs k)
-  each_left zero h = subst (Each Q) (sym (left_all bs)) all
-  each_left (suc k) h =
-      let e : k + 1 ≡ suc k = omega arith in
-      subst (λ n. Each Q (left_from bs n)) e (subst (Each Q) (left_more bs k (omega arith)) (each_left k (omega arith))).1
-
-  pub each_at : (k : ℕ) → k < length bs / 7 → Q (monomial_at bs (7 * k))
-  each_at k h = (subst (Each Q) (left_more bs k h) (each_left k (omega arith))).0
-
-module _ (bs : List ℕ) (gs : List Polynomial) (e : Exponents) where
-  -- what the monomials from the k-th on add to a coefficient
-  unfoldable pub left_to_add : ℕ → ℕ
-  left_to_add k = coefficient (compose (left_from bs k) gs) e
-
-  pub compose_start : left_to_add 0 ≡ coefficient (compose (polynomial_from bs) gs) e
-  unfolding left_to_add
-  compose_start = ap (λ p. coefficient (compose p gs) e) (left_all bs)
-
-  pub compose_turn : (k : ℕ) → k < length bs / 7 → left_to_add k ≡ coefficient (compose_monomial (monomial_at bs (7 * k)) gs) e + left_to_add (k + 1)
-  unfolding left_to_add
-  compose_turn k h = ap (λ p. coefficient (compose p gs) e) (left_more bs k h) ∙ weighed-++ (λ a. cond (same a e) 1 0) (compose_monomial (monomial_at bs (7 * k)) gs) (compose (left_from bs (k + 1)) gs)
-
-  pub compose_end : (k : ℕ) → length bs / 7 ≤ k → left_to_add k ≡ 0
-  unfolding left_to_add
-  compose_end k h = ap (λ p. coefficient (compose p gs) e) (left_none bs k h)

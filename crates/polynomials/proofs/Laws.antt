@@ -53,10 +53,6 @@ value_positive ns ps (m ∷ p) some factors absent =
     omega arith
 
 -- how the numbers at each place compare
-raised_length : {ms ns : List ℕ} → Raised ms ns → length ms ≡ length ns
-raised_length (here h) = refl
-raised_length (there r) = ap suc (raised_length r)
-
 raised_le : {ms ns : List ℕ} → Raised ms ns → (i : ℕ) → get_or ms i 0 ≤ get_or ns i 0
 raised_le (here h) zero = omega arith
 raised_le (here h) (suc i) = le_refl _
@@ -78,9 +74,6 @@ module _ (ms ns : List ℕ) (e : Exponents)
     (least : (i : ℕ) → 1 ≤ get_or ms i 0 ^ exponent i e) (le : (i : ℕ) → get_or ms i 0 ≤ get_or ns i 0) where
   grows : (i : ℕ) → get_or ms i 0 ^ exponent i e ≤ get_or ns i 0 ^ exponent i e
   grows i = pow-le-pow_left (le i) (exponent i e)
-
-  product_grows : power_product ms e ≤ power_product ns e
-  product_grows = mul-le-mul (grows 0) (mul-le-mul (grows 1) (mul-le-mul (grows 2) (grows 3)))
 
   -- strictly, where a greater number has an exponent
   product_rises : (i : ℕ) → get_or ms i 0 ^ exponent i e < get_or ns i 0 ^ exponent i e → power_product ms e < power_product ns e

@@ -7,15 +7,16 @@ pub mod Statements
 pub mod Products
 pub mod Tables
 pub mod Holding
-pub mod Algebra
+pub mod Identities
 pub mod Limits
 pub mod Coded
+pub mod Reading
 pub mod Composing
 pub mod Walks
 pub mod Rooms
 pub mod Shifting
 pub mod Comparing
-pub mod Grading
+pub mod GradeTests
 pub mod Measures
 mod Sums
 pub mod Properness

@@ -1,20 +1,30 @@
 -- What is measured of a term: its value with every variable at 2, and its degrees.
-use Rattle.std.proofs.Common.{◌≡◌, ℕ, zero, suc, ◌+◌, ◌-◌, ◌<◌, ◌≤◌, cond, eqb, List, ◌∷◌, get_or, sym, refl, ap, ◌∙◌, ap₂, inl, inr, arith}
+use Rattle.std.proofs.Common.{◌≡◌, ℕ, zero, suc, ◌+◌, ◌-◌, ◌<◌, ◌≤◌, cond, eqb, List, ◌∷◌, get_or, set, sym, refl, ap, ◌∙◌, ap₂, inl, inr, arith}
 use Rattle.std.proofs.lemmas.Bool.{cases_lt, eq-eqb, ne_eqb, cond-true, cond-false}
-use Rattle.terms.specs.Term.{Kind, Tree, var, node, nil, cons, Term}
-use Rattle.terms.specs.Prefix.{Arities, WellSorted}
+use Rattle.terms.specs.Term.{Kind, Tree, var, node, nil, cons, Term, Terms, how_many}
+use Rattle.terms.specs.Prefix.{Arities, WellSorted, behind, head_term}
 use Rattle.polynomials.specs.Polynomial.{Exponents, Polynomial, exponent, value, greatest, dot, degree}
 use Rattle.polynomials.specs.Interpretation.{Interpretation, Proper, unit, evaluate, polynomial_of}
 use Rattle.polynomials.specs.Coding.{cut_off}
-use Rattle.polynomials.specs.Measured.{of_symbol, measured}
-use Rattle.polynomials.specs.declared.measure.Measure.{Measure}
-use Rattle.polynomials.specs.declared.measure.Measure.TheVariants.{ValueAtTwo, Degree}
+use Rattle.polynomials.specs.Measured.{Measure, ValueAtTwo, Degree, of_symbol, measured, Filled}
 use Rattle.polynomials.proofs.Limits.{value_alike, greatest_alike}
+use Rattle.polynomials.proofs.Walks.{filled_more, filled_alike, number_at, numbers_length}
 use Rattle.polynomials.proofs.Degrees.{rise, degree_polynomial}
 
 pub symbol_alike : (m : Measure) (limit : ℕ) (ns ms : List ℕ) → ((i : ℕ) → cut_off limit (get_or ns i 0) ≡ cut_off limit (get_or ms i 0)) → (p : Polynomial) → cut_off limit (of_symbol m p ns) ≡ cut_off limit (of_symbol m p ms)
 symbol_alike ValueAtTwo limit ns ms alike p = value_alike limit ns ms alike p
 symbol_alike (Degree i) limit ns ms alike p = greatest_alike limit ns ms alike p
+
+-- ── the measures of the arguments ──
+
+module _ (m : Measure) (interpretation : Interpretation) (ts : Terms) (args : List ℕ) where
+  pub measures_more : (i n : ℕ) → i < 3 → i < how_many ts → Filled 2147483648 (measured m interpretation ts) args i → n ≡ cut_off 2147483648 (measured m interpretation (head_term (behind i ts))) → Filled 2147483648 (measured m interpretation ts) (set args i n) (i + 1)
+  measures_more i n inside h filled is = filled_more 2147483648 (measured m interpretation ts) args i n inside filled (is ∙ ap (cut_off 2147483648) (sym (number_at (measured m interpretation) (measured m interpretation) refl (λ t ts. refl) ts i h)))
+
+  pub symbol_measured : (f : ℕ) (p : Polynomial) → p ≡ interpretation f → Filled 2147483648 (measured m interpretation ts) args (how_many ts) → cut_off 2147483648 (of_symbol m p args) ≡ cut_off 2147483648 (measured m interpretation (node f ts))
+  symbol_measured f p is filled =
+      ap (λ q. cut_off 2147483648 (of_symbol m q args)) is
+      ∙ symbol_alike m 2147483648 args (measured m interpretation ts) (filled_alike 2147483648 (measured m interpretation ts) args (how_many ts) filled (sym (numbers_length (measured m interpretation) (measured m interpretation) refl (λ t ts. refl) ts))) (interpretation f)
 
 -- the degree of a variable: 1 in itself, and 0 in any other
 unit_at : (i x : ℕ) → i < 4 → exponent i (unit x) ≡ cond (eqb x (128 + i)) 1 0

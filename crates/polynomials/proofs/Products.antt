@@ -2,7 +2,7 @@
 use Rattle.std.proofs.Common.{◌≡◌, ℕ, zero, suc, ◌+◌, ◌*◌, ◌<◌, ◌≤◌, true, false, cond, List, length, get_or, sym, refl, ap, ◌∙◌, inl, inr, mul-zero, zero-mul, mul-one, arith}
 use Rattle.std.proofs.lemmas.Bool.{cases_eq, cases_Bool}
 use Rattle.polynomials.specs.Polynomial.{together, Monomial, Polynomial, same, coefficient, multiple, product}
-use Rattle.polynomials.specs.Cells.{exponents_at, cell, of_cells, held, Small, product_at}
+use Rattle.polynomials.specs.Cells.{exponents_at, cell, of_cells, held, Small, row_at, product_at}
 use Rattle.polynomials.proofs.Values.{weighed-++}
 use Rattle.polynomials.proofs.Cells.{same_true, same_refl, at_cell, cell_at, cell_below}
 
@@ -66,7 +66,7 @@ module _ (a b : List ℕ) (i j : ℕ) (hi : i < 256) (hj : j < 256) (small : Sma
       rw (f, mul-zero) (omega arith)
 
 -- what is summed up so far is part of the whole
-row_le : (a b : List ℕ) (i j n k : ℕ) → j ≤ n → row a b i j k ≤ row a b i n k
+pub row_le : (a b : List ℕ) (i j n k : ℕ) → j ≤ n → row a b i j k ≤ row a b i n k
 unfolding row
 row_le a b i j zero k h = let e : j ≡ 0 = omega arith in rw e (omega arith)
 row_le a b i j (suc n) k h =
@@ -91,6 +91,10 @@ rows_all a b k = refl
 pub rows_none : (a b : List ℕ) (k : ℕ) → rows a b 0 k ≡ 0
 unfolding rows
 rows_none a b k = refl
+
+pub row_whole : (a b : List ℕ) (i k : ℕ) → row a b i (length b) k ≡ row_at a b i k
+unfolding row row_at
+row_whole a b i k = refl
 
 pub row_start : (a b : List ℕ) (i k : ℕ) → row a b i 0 k ≡ 0
 unfolding row

@@ -1,5 +1,5 @@
 -- Tables and the polynomials that they hold.
-use Rattle.std.proofs.Common.{◌≡◌, ℕ, ◌+◌, ◌*◌, ◌<◌, ◌≤◌, true, false, ◌≢◌, List, [], length, get_or, set, replicate, sym, ap, ◌∙◌, inl, inr, mul_comm, mul-zero, mul-one, arith, get_or-set_other, get_or-set_same}
+use Rattle.std.proofs.Common.{◌≡◌, ℕ, zero, suc, ◌^◌, ◌<◌, true, false, List, [], length, get_or, set, replicate, sym, ap, ◌∙◌, inl, inr, mul-zero, mul-one, arith, get_or-set_other, get_or-set_same}
 use Rattle.std.proofs.lemmas.List.{get_or-replicate, length-replicate, length-set}
 use Rattle.std.proofs.lemmas.Bool.{cases_eq, cases_Bool}
 use Rattle.polynomials.specs.Polynomial.{Polynomial, same, coefficient, monomial, constant, sum}
@@ -44,15 +44,10 @@ constant_empty cells v i holds pos h =
     let f : same (exponents_at 0) (exponents_at i) ≡ false = other_cell 0 i (omega arith) h (λ e. omega arith) in
     holds.each i h ∙ rw (f, mul-zero) (omega arith)
 
--- one cell more is multiplied
-module _ (start cells : List ℕ) (i c : ℕ) (within : i < length cells)
-    (done : (j : ℕ) → j < i → get_or cells j 0 ≡ c * get_or start j 0) (left : (j : ℕ) → i ≤ j → get_or cells j 0 ≡ get_or start j 0) where
-  pub scaled_done : (j : ℕ) → j < i + 1 → get_or (set cells i (get_or cells i 0 * c)) j 0 ≡ c * get_or start j 0
-  scaled_done j h =
-      elim (cases_eq j i) [
-        | inl e ↦ rw e (rw get_or-set_same (ap (λ n. n * c) (left i (omega arith)) ∙ mul_comm (get_or start i 0) c))
-        | inr ne ↦ rw get_or-set_other (done j (omega arith))
-      ]
-
-  pub scaled_left : (j : ℕ) → i + 1 ≤ j → get_or (set cells i (get_or cells i 0 * c)) j 0 ≡ get_or start j 0
-  scaled_left j h = let ne : j ≢ i = omega arith in rw get_or-set_other (left j (omega arith))
+-- the cell of a variable's first power
+pub power_within : (i : ℕ) → i < 4 → (0 < 4 ^ i) × (4 ^ i < 256)
+power_within zero h = (omega arith, omega arith)
+power_within (suc zero) h = (omega arith, omega arith)
+power_within (suc (suc zero)) h = (omega arith, omega arith)
+power_within (suc (suc (suc zero))) h = (omega arith, omega arith)
+power_within (suc (suc (suc (suc i)))) h = absurd (omega arith)

@@ -2,7 +2,7 @@
 use Rattle.std.specs.Prelude.{◌≡◌, ℕ, zero, suc, ◌+◌, ◌*◌, ◌/◌, ◌%◌, ◌^◌, ◌<◌, ◌≤◌, List, [], ◌∷◌, length, slice_index}
 use Rattle.terms.specs.Term.{Term}
 use Rattle.polynomials.specs.Interpretation.{Interpretation, evaluate, polynomial_of}
-use Rattle.polynomials.specs.Polynomial.{Exponents, together, Polynomial, Monomial, coefficient, degree, total, product, compose}
+use Rattle.polynomials.specs.Polynomial.{Exponents, together, Polynomial, Monomial, coefficient, degree, total, multiple, product, compose}
 
 -- the exponents e0, e1, e2, e3 have the cell e0 + 4 e1 + 16 e2 + 64 e3
 abbrev pub cell : Exponents → ℕ
@@ -40,6 +40,10 @@ NoCarry a b = (i j : ℕ) → i < 256 → j < 256 → 1 ≤ slice_index a i → 
 unfoldable pub product_at : List ℕ → List ℕ → ℕ → ℕ
 product_at a b k = coefficient (product (held a) (held b)) (exponents_at k)
 
+-- the part in it of the cell i of the first table
+unfoldable pub row_at : List ℕ → List ℕ → ℕ → ℕ → ℕ
+row_at a b i k = coefficient (multiple (record { factor = slice_index a i; exponents = exponents_at i }) (held b)) (exponents_at k)
+
 -- The tables a and b hold p and q, and there is room for p times the n-th power of q: no exponent passes 3, and no coefficient 2147483647.
 pub record PowerRoom (a b : List ℕ) (n : ℕ) (p q : Polynomial) : Type 0 where
   pub left : Holds a p
@@ -54,12 +58,6 @@ pub record MonomialRoom (m : Monomial) (p q s : Polynomial) : Type 0 where
   pub second : 1 ≤ m.exponents.e1 → 1 ≤ total q
   pub third : 1 ≤ m.exponents.e2 → 1 ≤ total s
   pub room : m.factor * (total p ^ m.exponents.e0 * (total q ^ m.exponents.e1 * total s ^ m.exponents.e2)) ≤ 2147483647
-
--- tables that hold p, q and s
-pub record HoldThree (a b c : List ℕ) (p q s : Polynomial) : Type 0 where
-  pub first : Holds a p
-  pub second : Holds b q
-  pub third : Holds c s
 
 -- each monomial of a polynomial is such
 abbrev pub Each : (Monomial → Type 0) → Polynomial → Type 0

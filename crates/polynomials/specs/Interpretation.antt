@@ -1,7 +1,7 @@
 -- Polynomial interpretations of terms, and the order that they give.
 use Rattle.std.specs.Prelude.{◌≡◌, ℕ, ◌<◌, ◌≤◌, cond, List, [], ◌∷◌, length, Some, ◌==◌}
-use Rattle.terms.specs.Term.{Kind, one, many, Tree, var, node, nil, cons, Term}
-use Rattle.terms.specs.Prefix.{Arities}
+use Rattle.terms.specs.Term.{Kind, one, many, Tree, var, node, nil, cons, Term, Terms}
+use Rattle.terms.specs.Prefix.{Arities, WellSorted}
 use Rattle.polynomials.specs.Polynomial.{Exponents, Polynomial, value, degree, monomial, constant, sum, compose}
 
 -- an interpretation: the polynomial of each symbol, whose variables 0, 1 and 2 are the arguments
@@ -27,6 +27,19 @@ pub record ProperFor (n : ℕ) (p : Polynomial) : Type 0 where
 -- a proper interpretation of a signature
 abbrev pub Proper : Arities → Interpretation → Type 0
 Proper sig interpretation = (f n : ℕ) → sig f ≡ Some n → ProperFor n (interpretation f)
+
+-- a symbol of a proper interpretation, with its polynomial p, and its arguments
+pub record Application (sig : Arities) (interpretation : Interpretation) (f : ℕ) (ts : Terms) (p : Polynomial) : Type 0 where
+  pub proper : Proper sig interpretation
+  pub sorted : WellSorted sig 4 (node f ts)
+  pub polynomial : p ≡ interpretation f
+
+-- P holds of a term, of its arguments, of theirs, and so on
+abbrev pub Throughout : {k : Kind} → (Term → Type 0) → Tree k → Type 0
+Throughout P (var x) = P (var x)
+Throughout P (node f ts) = P (node f ts) × Throughout P ts
+Throughout P nil = Unit {0}
+Throughout P (cons t ts) = Throughout P t × Throughout P ts
 
 -- ── numbers ──
 

@@ -3,6 +3,9 @@ pub mod Interpretation
 pub mod Grade
 pub mod Cells
 pub mod Coding
+pub mod Meant
+pub mod Tables
+pub mod GradeNumbers
 pub mod Measured
 pub mod Theorems
 pub mod Examples

@@ -1,26 +1,22 @@
 // Measures of terms, cut off at a limit: the value with every variable at 2, and the degrees.
-ghost use Rattle.std.specs.Prelude.{◌≡◌, ℕ, ◌+◌, ◌*◌, ◌^◌, ◌<◌, ◌≤◌, length, slice_index};
-ghost use Rattle.terms.specs.Term.{Term, size};
-ghost use Rattle.terms.specs.Prefix.{Begins};
+ghost use Rattle.std.specs.Prelude.{◌≡◌, ℕ, ◌+◌, ◌*◌, ◌^◌, ◌<◌, ◌≤◌, ⊤, [], ◌∷◌, slice_index, slice_set};
 ghost use Rattle.polynomials.specs.Polynomial.{power_product, value, greatest, dot};
-ghost use Rattle.polynomials.specs.Measured.{of_variable, of_symbol, measured};
-ghost use Rattle.polynomials.specs.Coding.{monomial_at, polynomial_from, cut_off};
+ghost use Rattle.polynomials.specs.Coding.{polynomial_from, cut_off};
+ghost use Rattle.polynomials.specs.Measured.{ValueAtTwo, Degree, measured, Filled};
+ghost use Rattle.polynomials.specs.Meant.{meant};
 
-use crate::symbols::Symbols;
-
-#[derive(Clone, Copy)]
-pub(crate) enum Measure {
-    ValueAtTwo,
-    Degree(u8),
-}
+use crate::algebra::Algebra;
+use crate::monomial::{Monomial, Monomials};
+use terms::prefix::VARIABLE;
 
 // Where values are cut off: the first that is too large.
 const LIMIT: u64 = 2147483648;
 
+#[tactic(auto, unfolding(crate::specs::Coding::cut_off))]
 fn cut(n: u64) -> u64
     ensures { result ≡ cut_off 2147483648 n }
 {
-    if n < LIMIT { n } else { LIMIT }
+    n.min(LIMIT)
 }
 
 // `start` times a power of `base`.
@@ -35,104 +31,134 @@ fn times_power(start: u64, base: u64, exponent: u8) -> u64
     r
 }
 
-// The factor of the monomial at a place.
-pub(crate) fn factor_at(monomials: &[u8], place: usize) -> u64
-    requires { place + 7 ≤ length monomials.now }
-    ensures { (result ≡ (monomial_at monomials.now place).factor) × (result < 2 ^ 32) }
-{
-    let high = monomials[place] as u64 * 256 + monomials[place + 1] as u64;
-    (high * 256 + monomials[place + 2] as u64) * 256 + monomials[place + 3] as u64
+// The measures of a symbol's three arguments, cut off; 0 for one that is missing.
+#[derive(Clone, Copy)]
+pub(crate) struct Measures {
+    numbers: [u64; 3],
+    ghost small: { (i : ℕ) → slice_index numbers i ≤ 2147483648 },
 }
 
-// The value of the monomial at a place, where the arguments have their values.
-fn monomial_value(monomials: &[u8], place: usize, args: &[u64; 3]) -> u64
-    requires inside { place + 7 ≤ length monomials.now }
-    requires small { (i : ℕ) → slice_index args.now i ≤ 2147483648 }
-    ensures { result ≡ cut_off 2147483648 ((monomial_at monomials.now place).factor * power_product args.now (monomial_at monomials.now place).exponents) }
+impl Measures {
+    fn zeros() -> Measures
+        ensures { result.numbers ≡ 0 ∷ 0 ∷ 0 ∷ [] }
+    {
+        Measures { numbers: [0; 3] }
+    }
+
+    fn put(&mut self, i: usize, number: u64)
+        requires inside { i < 3 }
+        requires small { number ≤ 2147483648 }
+        ensures { self.new.numbers ≡ slice_set self.old.numbers i number }
+    {
+        let mut numbers = self.numbers;
+        numbers[i] = number;
+        *self = Measures { numbers };
+    }
+}
+
+// The value of a monomial, where the arguments have their values.
+fn monomial_value(monomial: Monomial, args: &Measures) -> u64
+    ensures { result ≡ cut_off 2147483648 ((meant monomial).factor * power_product args.now.numbers (meant monomial).exponents) }
 {
-    let first = times_power(factor_at(monomials, place), args[0], monomials[place + 4]);
-    let second = times_power(first, args[1], monomials[place + 5]);
-    times_power(second, args[2], monomials[place + 6])
+    let [e0, e1, e2] = monomial.exponents;
+    let first = times_power(monomial.factor as u64, args.numbers[0], e0);
+    let second = times_power(first, args.numbers[1], e1);
+    times_power(second, args.numbers[2], e2)
 }
 
 // The value of a symbol's polynomial, where the arguments have their values.
-fn symbol_value(monomials: &[u8], args: &[u64; 3]) -> u64
-    requires small { (i : ℕ) → slice_index args.now i ≤ 2147483648 }
-    ensures { result ≡ cut_off 2147483648 (value args.now (polynomial_from monomials.now)) }
+fn symbol_value(monomials: &[u8], args: &Measures) -> u64
+    ensures { result ≡ cut_off 2147483648 (value args.now.numbers (polynomial_from monomials.now)) }
 {
     let mut sum = 0;
-    for k in 0..monomials.len() / 7 {
-        sum = cut(sum + monomial_value(monomials, 7 * k, args));
+    for monomial in Monomials::new(monomials) {
+        sum = cut(sum + monomial_value(monomial, args));
     }
     sum
 }
 
-// The degree of the monomial at a place, where the arguments have their degrees.
-fn monomial_degree(monomials: &[u8], place: usize, args: &[u64; 3]) -> u64
-    requires inside { place + 7 ≤ length monomials.now }
-    requires small { (i : ℕ) → slice_index args.now i ≤ 2147483648 }
-    ensures { result ≡ dot args.now (monomial_at monomials.now place).exponents }
+// The degree of a monomial, where the arguments have their degrees.
+fn monomial_degree(monomial: Monomial, args: &Measures) -> u64
+    ensures { result ≡ dot args.now.numbers (meant monomial).exponents }
 {
-    let first = monomials[place + 4] as u64 * args[0];
-    let second = monomials[place + 5] as u64 * args[1];
-    let third = monomials[place + 6] as u64 * args[2];
-    first + (second + third)
+    let [e0, e1, e2] = monomial.exponents;
+    let [first, second, third] = args.numbers;
+    e0 as u64 * first + (e1 as u64 * second + e2 as u64 * third)
 }
 
 // The degree of a symbol's polynomial, where the arguments have their degrees.
-fn symbol_degree(monomials: &[u8], args: &[u64; 3]) -> u64
-    requires small { (i : ℕ) → slice_index args.now i ≤ 2147483648 }
-    ensures { result ≡ greatest (dot args.now) (polynomial_from monomials.now) }
+fn symbol_degree(monomials: &[u8], args: &Measures) -> u64
+    ensures { result ≡ greatest (dot args.now.numbers) (polynomial_from monomials.now) }
 {
     let mut most = 0;
-    for k in 0..monomials.len() / 7 {
-        let degree = monomial_degree(monomials, 7 * k, args);
-        if degree > most {
-            most = degree;
-        }
+    for monomial in Monomials::new(monomials) {
+        most = monomial_degree(monomial, args).max(most);
     }
     most
 }
 
-fn measure_variable(measure: Measure, x: u8) -> u64
-    requires { (128 ≤ x) × (x < 132) }
-    ensures { result ≡ cut_off 2147483648 (of_variable measure x) }
-{
-    match measure {
-        Measure::ValueAtTwo => 2,
-        Measure::Degree(i) => { if x - 128 == i { 1 } else { 0 } }
+// The value with every variable at 2.
+#[derive(Clone, Copy)]
+pub(crate) struct AtTwo {}
+
+impl Algebra for AtTwo {
+    type Value = u64;
+
+    type Arguments = Measures;
+
+    ghost fits = { λ _ interpretation t. ⊤ };
+
+    ghost worth = { λ _ interpretation t n. n ≡ cut_off 2147483648 (measured ValueAtTwo interpretation t) };
+
+    ghost entered = { λ _ interpretation ts i arguments. Filled 2147483648 (measured ValueAtTwo interpretation ts) arguments.numbers i };
+
+    fn variable(&self, _x: u8) -> u64 {
+        2
+    }
+
+    fn no_arguments(&self) -> Measures {
+        Measures::zeros()
+    }
+
+    fn enter(&self, arguments: &mut Measures, i: usize, value: u64) {
+        arguments.put(i, value);
+    }
+
+    fn symbol(&self, monomials: &[u8], arguments: &Measures) -> u64 {
+        symbol_value(monomials, arguments)
     }
 }
 
-fn measure_symbol(measure: Measure, monomials: &[u8], args: &[u64; 3]) -> u64
-    requires small { (i : ℕ) → slice_index args.now i ≤ 2147483648 }
-    ensures { result ≡ cut_off 2147483648 (of_symbol measure (polynomial_from monomials.now) args.now) }
-{
-    match measure {
-        Measure::ValueAtTwo => symbol_value(monomials, args),
-        Measure::Degree(_) => cut(symbol_degree(monomials, args)),
-    }
+// The degree in a variable.
+#[derive(Clone, Copy)]
+pub(crate) struct DegreeIn {
+    pub(crate) variable: u8,
 }
 
-// The measure of the term that the bytes begin with, and the length of the term.
-pub(crate) fn measure_term<S: Symbols>(symbols: &S, measure: Measure, bytes: &[u8]) -> (u64, usize)
-    requires { (t : Term) × Begins (S.Symbols.signature symbols.now) 4 bytes.now t }
-    ensures { (t : Term) → Begins (S.Symbols.signature symbols.now) 4 bytes.now t → (result.0 ≡ cut_off 2147483648 (measured measure (S.Symbols.interpretation symbols.now) t)) × (result.1 ≡ size t) }
-{
-    let code = bytes[0];
-    if code >= 128 {
-        return (measure_variable(measure, code), 1);
+impl Algebra for DegreeIn {
+    type Value = u64;
+
+    type Arguments = Measures;
+
+    ghost fits = { λ _ interpretation t. ⊤ };
+
+    ghost worth = { λ s interpretation t n. n ≡ cut_off 2147483648 (measured (Degree s.variable) interpretation t) };
+
+    ghost entered = { λ s interpretation ts i arguments. Filled 2147483648 (measured (Degree s.variable) interpretation ts) arguments.numbers i };
+
+    fn variable(&self, x: u8) -> u64 {
+        if x - VARIABLE == self.variable { 1 } else { 0 }
     }
-    let monomials = symbols.monomials(code);
-    let Some(arity) = symbols.arity(code) else {
-        return (0, 0);
-    };
-    let mut args = [0u64; 3];
-    let mut end = 1;
-    for i in 0..arity as usize {
-        let (number, length) = measure_term(symbols, measure, &bytes[end..]);
-        args[i] = number;
-        end += length;
+
+    fn no_arguments(&self) -> Measures {
+        Measures::zeros()
     }
-    (measure_symbol(measure, monomials, &args), end)
+
+    fn enter(&self, arguments: &mut Measures, i: usize, value: u64) {
+        arguments.put(i, value);
+    }
+
+    fn symbol(&self, monomials: &[u8], arguments: &Measures) -> u64 {
+        cut(symbol_degree(monomials, arguments))
+    }
 }

@@ -1,77 +1,71 @@
 // The shifted coefficients of a term.
 ghost use Rattle.std.specs.Prelude.{◌≡◌, ℕ, ◌+◌, ◌<◌, ◌≤◌, [], ◌∷◌, length, slice_index};
-ghost use Rattle.terms.specs.Term.{Term, size};
-ghost use Rattle.terms.specs.Prefix.{Begins};
 ghost use Rattle.polynomials.specs.Interpretation.{shifted};
 ghost use Rattle.polynomials.specs.Polynomial.{Polynomial, coefficient, compose_monomial, compose};
-ghost use Rattle.polynomials.specs.Cells.{exponents_at, Holds, HoldThree, MonomialRoom, ComposeRoom, TermRoom};
-ghost use Rattle.polynomials.specs.Coding.{monomial_at, polynomial_from};
+ghost use Rattle.polynomials.specs.Cells.{exponents_at, Holds, MonomialRoom, ComposeRoom, TermRoom};
+ghost use Rattle.polynomials.specs.Coding.{polynomial_from};
+ghost use Rattle.polynomials.specs.Meant.{meant};
+ghost use Rattle.polynomials.specs.Tables.{HoldThree, TablesOf};
 
-use crate::measure::factor_at;
-use crate::symbols::Symbols;
+use crate::algebra::Algebra;
+use crate::monomial::{Monomial, Monomials};
 use crate::table::Table;
 
-// Adds the monomial at a place, with tables put for its variables.
-fn add_monomial(
-    sum: &mut Table,
-    monomials: &[u8],
-    place: usize,
-    first: &Table,
-    second: &Table,
-    third: &Table,
-)
-    requires inside { place + 7 ≤ length monomials.now }
+// Adds a monomial with tables put for its variables.
+fn add_monomial(sum: &mut Table, monomial: Monomial, tables: &[Table; 3])
     requires small { (k : ℕ) → k < 256 → slice_index sum.old.cells k ≤ 2147483647 }
-    requires room { (p q s : Polynomial) × HoldThree first.now.cells second.now.cells third.now.cells p q s × MonomialRoom (monomial_at monomials.now place) p q s }
+    requires room { (p q s : Polynomial) × HoldThree tables.now p q s × MonomialRoom (meant monomial) p q s }
     ensures full { length sum.new.cells ≡ length sum.old.cells }
-    ensures each { (p q s : Polynomial) → HoldThree first.now.cells second.now.cells third.now.cells p q s → MonomialRoom (monomial_at monomials.now place) p q s → (k : ℕ) → k < 256 → slice_index sum.new.cells k ≡ slice_index sum.old.cells k + coefficient (compose_monomial (monomial_at monomials.now place) (p ∷ q ∷ s ∷ [])) (exponents_at k) }
+    ensures each { (p q s : Polynomial) → HoldThree tables.now p q s → MonomialRoom (meant monomial) p q s → (k : ℕ) → k < 256 → slice_index sum.new.cells k ≡ slice_index sum.old.cells k + coefficient (compose_monomial (meant monomial) (p ∷ q ∷ s ∷ [])) (exponents_at k) }
 {
-    let mut term = Table::constant(factor_at(monomials, place));
-    term.times_power(first, monomials[place + 4]);
-    term.times_power(second, monomials[place + 5]);
-    term.times_power(third, monomials[place + 6]);
+    let [e0, e1, e2] = monomial.exponents;
+    let mut term = Table::constant(monomial.factor as u64);
+    term.times_power(&tables[0], e0);
+    term.times_power(&tables[1], e1);
+    term.times_power(&tables[2], e2);
     sum.add(&term);
 }
 
 // The polynomial of a symbol, with tables put for its arguments.
-fn compose_tables(monomials: &[u8], first: &Table, second: &Table, third: &Table) -> Table
-    requires { (p q s : Polynomial) × HoldThree first.now.cells second.now.cells third.now.cells p q s × ComposeRoom (polynomial_from monomials.now) p q s }
-    ensures { (p q s : Polynomial) → HoldThree first.now.cells second.now.cells third.now.cells p q s → ComposeRoom (polynomial_from monomials.now) p q s → Holds result.cells (compose (polynomial_from monomials.now) (p ∷ q ∷ s ∷ [])) }
+fn compose_tables(monomials: &[u8], tables: &[Table; 3]) -> Table
+    requires { (p q s : Polynomial) × HoldThree tables.now p q s × ComposeRoom (polynomial_from monomials.now) p q s }
+    ensures { (p q s : Polynomial) → HoldThree tables.now p q s → ComposeRoom (polynomial_from monomials.now) p q s → Holds result.cells (compose (polynomial_from monomials.now) (p ∷ q ∷ s ∷ [])) }
 {
     let mut sum = Table::zero();
-    for k in 0..monomials.len() / 7 {
-        add_monomial(&mut sum, monomials, 7 * k, first, second, third);
+    for monomial in Monomials::new(monomials) {
+        add_monomial(&mut sum, monomial, tables);
     }
     sum
 }
 
-// The shifted coefficients of the term that the bytes begin with, and the length of the term.
-pub(crate) fn shifted_coefficients<S: Symbols>(symbols: &S, bytes: &[u8]) -> (Table, usize)
-    requires { (t : Term) × Begins (S.Symbols.signature symbols.now) 4 bytes.now t × TermRoom (S.Symbols.interpretation symbols.now) t }
-    ensures { (t : Term) → Begins (S.Symbols.signature symbols.now) 4 bytes.now t → TermRoom (S.Symbols.interpretation symbols.now) t → Holds result.0.cells (shifted (S.Symbols.interpretation symbols.now) t) × (result.1 ≡ size t) }
-{
-    let code = bytes[0];
-    if code >= 128 {
-        return (Table::shifted_variable(code), 1);
+// The shifted coefficients.
+#[derive(Clone, Copy)]
+pub(crate) struct ShiftedCoefficients {}
+
+impl Algebra for ShiftedCoefficients {
+    type Value = Table;
+
+    type Arguments = [Table; 3];
+
+    ghost fits = { λ _ interpretation t. TermRoom interpretation t };
+
+    ghost worth = { λ _ interpretation t table. Holds table.cells (shifted interpretation t) };
+
+    ghost entered = { λ _ interpretation ts i tables. TablesOf interpretation ts i tables };
+
+    fn variable(&self, x: u8) -> Table {
+        Table::shifted_variable(x)
     }
-    let monomials = symbols.monomials(code);
-    let Some(arity) = symbols.arity(code) else {
-        return (Table::zero(), 0);
-    };
-    let mut first = Table::zero();
-    let mut second = Table::zero();
-    let mut third = Table::zero();
-    let mut end = 1;
-    for i in 0..arity as usize {
-        let (table, length) = shifted_coefficients(symbols, &bytes[end..]);
-        if i == 0 {
-            first = table;
-        } else if i == 1 {
-            second = table;
-        } else {
-            third = table;
-        }
-        end += length;
+
+    fn no_arguments(&self) -> [Table; 3] {
+        [Table::zero(); 3]
     }
-    (compose_tables(monomials, &first, &second, &third), end)
+
+    fn enter(&self, arguments: &mut [Table; 3], i: usize, value: Table) {
+        arguments[i] = value;
+    }
+
+    fn symbol(&self, monomials: &[u8], arguments: &[Table; 3]) -> Table {
+        compose_tables(monomials, arguments)
+    }
 }

@@ -3,7 +3,9 @@ ghost use Rattle.std.specs.Prelude.{◌≡◌, ℕ, ◌+◌, ◌*◌, ◌^◌, �
 ghost use Rattle.polynomials.specs.Polynomial.{Polynomial, constant, degree, product, power};
 ghost use Rattle.polynomials.specs.Interpretation.{unit, shifted_variable};
 ghost use Rattle.polynomials.specs.Grade.{any_negative, positive_constant};
-ghost use Rattle.polynomials.specs.Cells.{exponents_at, Holds, NoCarry, product_at, PowerRoom};
+ghost use Rattle.polynomials.specs.Cells.{exponents_at, Holds, NoCarry, row_at, product_at, PowerRoom};
+
+use terms::prefix::VARIABLE;
 
 // The coefficient at the exponents e0, e1, e2, e3 is in the cell e0 + 4 e1 + 16 e2 + 64 e3.
 #[derive(Clone, Copy)]
@@ -20,15 +22,7 @@ fn variable_cell(x: u8) -> usize
     ensures below { (0 < result) × (result < 256) }
     ensures is { exponents_at result ≡ unit x }
 {
-    if x == 128 {
-        1
-    } else if x == 129 {
-        4
-    } else if x == 130 {
-        16
-    } else {
-        64
-    }
+    4usize.pow((x - VARIABLE) as u32)
 }
 
 impl Table {
@@ -56,43 +50,44 @@ impl Table {
         table
     }
 
-    // Multiplies by a number.
-    pub(crate) fn scale(&mut self, c: u64)
-        requires { (k : ℕ) → k < 256 → c * slice_index self.old.cells k < 2 ^ 64 }
-        ensures { (k : ℕ) → k < 256 → slice_index self.new.cells k ≡ c * slice_index self.old.cells k }
-    {
-        for k in 0..256 {
-            self.cells[k] *= c;
-        }
-    }
-
     // Adds another table.
     pub(crate) fn add(&mut self, a: &Table)
         requires { (k : ℕ) → k < 256 → slice_index self.old.cells k + slice_index a.now.cells k < 2 ^ 64 }
         ensures full { length self.new.cells ≡ length self.old.cells }
         ensures each { (k : ℕ) → k < 256 → slice_index self.new.cells k ≡ slice_index self.old.cells k + slice_index a.now.cells k }
     {
-        for k in 0..256 {
-            self.cells[k] += a.cells[k];
+        for (k, cell) in self.cells.iter_mut().enumerate() {
+            *cell += a.cells[k];
+        }
+    }
+
+    // Adds the product of two tables that the cell i of the first has a part in.
+    fn add_row(&mut self, a: &Table, i: usize, b: &Table)
+        requires inside { i < 256 }
+        requires some { 1 ≤ slice_index a.now.cells i }
+        requires apart { NoCarry a.now.cells b.now.cells }
+        requires room { (k : ℕ) → k < 256 → slice_index self.old.cells k + row_at a.now.cells b.now.cells i k < 2 ^ 64 }
+        ensures full { length self.new.cells ≡ length self.old.cells }
+        ensures each { (k : ℕ) → k < 256 → slice_index self.new.cells k ≡ slice_index self.old.cells k + row_at a.now.cells b.now.cells i k }
+    {
+        let x = a.cells[i];
+        for (j, &y) in b.cells.iter().enumerate() {
+            if y != 0 {
+                self.cells[i + j] += x * y;
+            }
         }
     }
 
     // Adds the product of two tables.
-    pub(crate) fn add_product(&mut self, a: &Table, b: &Table)
+    fn add_product(&mut self, a: &Table, b: &Table)
         requires apart { NoCarry a.now.cells b.now.cells }
         requires room { (k : ℕ) → k < 256 → slice_index self.old.cells k + product_at a.now.cells b.now.cells k < 2 ^ 64 }
         ensures full { length self.new.cells ≡ length self.old.cells }
         ensures each { (k : ℕ) → k < 256 → slice_index self.new.cells k ≡ slice_index self.old.cells k + product_at a.now.cells b.now.cells k }
     {
-        for i in 0..256 {
-            let x = a.cells[i];
+        for (i, &x) in a.cells.iter().enumerate() {
             if x != 0 {
-                for j in 0..256 {
-                    let y = b.cells[j];
-                    if y != 0 {
-                        self.cells[i + j] += x * y;
-                    }
-                }
+                self.add_row(a, i, b);
             }
         }
     }
@@ -121,12 +116,10 @@ impl Table {
     pub(crate) fn any_negative(&self, other: &Table) -> bool
         ensures { (p q : Polynomial) → Holds self.now.cells p → Holds other.now.cells q → ((i : ℕ) → i < 4 → degree i q ≤ 3) → result ≡ any_negative p q }
     {
-        for k in 0..256 {
-            if self.cells[k] < other.cells[k] {
-                return true;
-            }
-        }
-        false
+        self.cells
+            .iter()
+            .zip(other.cells.iter())
+            .any(|(coefficient, other)| coefficient < other)
     }
 
     // Whether the constant is greater than that of another table.

@@ -1,15 +1,9 @@
 -- Which part a byte is bound to, and what changes where a free variable is bound.
-use Rattle.std.proofs.Common.{◌≡◌, ℕ, zero, suc, ◌-◌, ◌<◌, ◌≤◌, ltb, ◌⊎◌, List, [], ◌∷◌, length, get_or, set, Some, None, Option, sym, refl, ap, ◌∙◌, subst, inl, inr, arith}
+use Rattle.std.proofs.Common.{◌≡◌, ℕ, zero, suc, ◌-◌, ◌<◌, ◌≤◌, ltb, ◌⊎◌, [], ◌∷◌, length, get_or, set, Some, None, Option, sym, refl, ap, ◌∙◌, subst, inl, inr, arith}
 use Rattle.std.proofs.lemmas.List.{get_or-set_same, get_or-set_other}
+use Rattle.std.proofs.lemmas.Option.{same_Some}
 use Rattle.std.proofs.lemmas.Bool.{cases_eq, cases_lt, cond-true, cond-false, lt-ltb, le-ltb}
-use Rattle.stepping.specs.declared.matching.Span.{Span}
-use Rattle.stepping.specs.Bindings.{cut, Within, Bindings, AllWithin, bound_to, bytes_for, piece_of}
-
-pub free_not_bound : {o : Option Span} {s : Span} → o ≡ None → o ≡ Some s → ⊥
-free_not_bound e f = let z : ◌≡◌ {A = ℕ} 0 1 = cc in omega arith
-
-span_same : {r s : Span} → ◌≡◌ {A = Option Span} (Some r) (Some s) → r ≡ s
-span_same e = cc
+use Rattle.stepping.specs.Bindings.{Part, Bindings, bound_to, bytes_for, piece_of}
 
 -- a code is bound to nothing
 pub code_free : (bs : Bindings) (x : ℕ) → x < 128 → bound_to bs x ≡ None
@@ -19,14 +13,14 @@ pub variable_bound : (bs : Bindings) (x : ℕ) → 128 ≤ x → bound_to bs x �
 variable_bound bs x h = cond-false (ltb x 128) None (get_or bs (x - 128) None) (le-ltb x 128 h)
 
 -- a byte that is bound to nothing stays
-pub piece_free : (bs : Bindings) (bytes : List ℕ) (b : ℕ) → bound_to bs b ≡ None → piece_of bs bytes b ≡ b ∷ []
-piece_free bs bytes b e = ap (bytes_for bytes b) e
+pub piece_free : (bs : Bindings) (b : ℕ) → bound_to bs b ≡ None → piece_of bs b ≡ b ∷ []
+piece_free bs b e = ap (bytes_for b) e
 
-pub piece_bound : (bs : Bindings) (bytes : List ℕ) (b : ℕ) (s : Span) → bound_to bs b ≡ Some s → piece_of bs bytes b ≡ cut bytes s
-piece_bound bs bytes b s e = ap (bytes_for bytes b) e
+pub piece_bound : (bs : Bindings) (b : ℕ) (s : Part) → bound_to bs b ≡ Some s → piece_of bs b ≡ s.now
+piece_bound bs b s e = ap (bytes_for b) e
 
 -- four free variables
-pub free_start : (i : ℕ) → get_or {A = Option Span} (None ∷ (None ∷ (None ∷ (None ∷ [])))) i None ≡ None
+pub free_start : (i : ℕ) → get_or {A = Option Part} (None ∷ (None ∷ (None ∷ (None ∷ [])))) i None ≡ None
 free_start zero = refl
 free_start (suc zero) = refl
 free_start (suc (suc zero)) = refl
@@ -36,7 +30,7 @@ free_start (suc (suc (suc (suc i)))) = refl
 pub all_free : (bs : Bindings) → ((i : ℕ) → get_or bs i None ≡ None) → (x : ℕ) → bound_to bs x ≡ None
 all_free bs free x = elim (cases_lt x 128) [ inl h ↦ code_free bs x h | inr h ↦ variable_bound bs x h ∙ free (x - 128) ]
 
-module _ (bs : Bindings) (x : ℕ) (part : Span) (code : 128 ≤ x) (inside : x - 128 < length bs) where
+module _ (bs : Bindings) (x : ℕ) (part : Part) (code : 128 ≤ x) (inside : x - 128 < length bs) where
   abbrev now_bound : Bindings
   now_bound = set bs (x - 128) (Some part)
 
@@ -50,14 +44,8 @@ module _ (bs : Bindings) (x : ℕ) (part : Span) (code : 128 ≤ x) (inside : x 
   ]
 
   -- what is bound now was bound before, or it is x
-  pub bound_before : (y : ℕ) (s : Span) → bound_to now_bound y ≡ Some s → ((y ≡ x) × (part ≡ s)) ⊎ (bound_to bs y ≡ Some s)
+  pub bound_before : (y : ℕ) (s : Part) → bound_to now_bound y ≡ Some s → ((y ≡ x) × (part ≡ s)) ⊎ (bound_to bs y ≡ Some s)
   bound_before y s e = elim (cases_eq y x) [
-    | inl p ↦ inl (p, span_same (sym bound_now ∙ subst (λ z. bound_to now_bound z ≡ Some s) p e))
+    | inl p ↦ inl (p, same_Some part s (sym bound_now ∙ subst (λ z. bound_to now_bound z ≡ Some s) p e))
     | inr q ↦ inr (sym (bound_other y q) ∙ e)
-  ]
-
-  pub within_still : (bytes : List ℕ) → AllWithin bytes bs → Within bytes part → AllWithin bytes now_bound
-  within_still bytes a w i s e = elim (cases_eq i (x - 128)) [
-    | inl p ↦ subst (Within bytes) (span_same (sym (get_or-set_same bs (x - 128) (Some part) None inside) ∙ subst (λ k. get_or now_bound k None ≡ Some s) p e)) w
-    | inr q ↦ a i s (sym (get_or-set_other bs (x - 128) i (Some part) None q) ∙ e)
   ]

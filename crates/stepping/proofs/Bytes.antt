@@ -1,9 +1,9 @@
 -- Reading bytes that are left: the first byte, and the first term.
-use Rattle.std.proofs.Common.{◌≡◌, ℕ, ◌+◌, ◌-◌, ◌<◌, List, [], ◌∷◌, ◌++◌, length, get_or, take, drop, Some, None, Option, sym, ap, ◌∙◌, subst, arith, length-drop}
+use Rattle.std.proofs.Common.{◌≡◌, ℕ, ◌+◌, ◌-◌, ◌<◌, List, ◌∷◌, ◌++◌, length, get_or, take, drop, Some, None, Option, sym, ap, ◌∙◌, subst, arith, length-drop}
 use Rattle.std.proofs.lemmas.List.{drop_more, take_at, take_rest}
 use Rattle.terms.specs.Term.{Term, size}
-use Rattle.terms.specs.Prefix.{Arities, prefix, WellSorted, Reads, FirstTerm}
-use Rattle.terms.proofs.Reading.{prefix_length}
+use Rattle.terms.specs.Prefix.{Arities, prefix, WellSorted, Reads, IsTerm, FirstTerm, term_of}
+use Rattle.terms.proofs.Reading.{prefix_length, bytes_read_as_their_term}
 use Rattle.terms.proofs.Parts.{begins_unique}
 
 -- the first byte of what is left
@@ -12,23 +12,11 @@ pub record FirstByte (b : ℕ) (w bs : List ℕ) (i : ℕ) : Type 0 where
   pub here : get_or bs i 0 ≡ b
   pub rest : w ≡ drop (i + 1) bs
 
-head_same : {a b : ℕ} {v w : List ℕ} → ◌≡◌ {A = List ℕ} (a ∷ v) (b ∷ w) → a ≡ b
-head_same e = cc
-
-tail_same : {a b : ℕ} {v w : List ℕ} → ◌≡◌ {A = List ℕ} (a ∷ v) (b ∷ w) → v ≡ w
-tail_same e = cc
-
 pub first_byte : (b : ℕ) (w bs : List ℕ) (i : ℕ) → b ∷ w ≡ drop i bs → FirstByte b w bs i
 first_byte b w bs i e =
     let h : i < length bs = omega (arith, ap length e, length-drop i bs) in
     let f : b ∷ w ≡ get_or bs i 0 ∷ drop (i + 1) bs = e ∙ drop_more bs i 0 h in
-    record { inside = h; here = sym (head_same f); rest = tail_same f }
-
--- `&bytes[i..i + 1]`
-pub one_byte : (bs : List ℕ) (i : ℕ) → i < length bs → take (i + 1 - i) (drop i bs) ≡ get_or bs i 0 ∷ []
-one_byte bs i h =
-    let n : i + 1 - i ≡ 1 = omega arith in
-    ap (λ k. take k (drop i bs)) n ∙ ap (take 1) (drop_more bs i 0 h)
+    record { inside = h; here = cc; rest = cc }
 
 module _ (sig : Arities) (vars : ℕ) where
   -- a term has as many bytes as symbols and variables
@@ -48,3 +36,7 @@ module _ (sig : Arities) (vars : ℕ) where
 
   pub first_term_some : (bs : List ℕ) → FirstTerm sig vars bs None → (u : Term) (rest : List ℕ) → WellSorted sig vars u → prefix u ++ rest ≡ bs → ⊥
   first_term_some bs f u rest w e = f u (record { sorted = w; rest = rest; form = e })
+
+  -- bytes that are a term are the term that they read as
+  pub reads_itself : (bs : List ℕ) → IsTerm sig vars bs → Reads sig vars bs (term_of sig bs)
+  reads_itself bs t = subst (Reads sig vars bs) (sym (bytes_read_as_their_term sig vars bs t.0 t.1)) t.1

@@ -1,36 +1,18 @@
 -- The bytes of an instance of a right side, and of the term around it.
-use Rattle.std.proofs.Common.{◌≡◌, ℕ, zero, suc, ◌+◌, ◌-◌, ◌<◌, ◌≤◌, ltb, ◌⊎◌, List, [], ◌∷◌, ◌++◌, length, get_or, take, drop, Some, None, Option, sym, refl, ap, ◌∙◌, subst, ap₂, inl, inr, arith, length-append}
-use Rattle.std.proofs.lemmas.List.{get_or_append_left, get_or-append_right}
+use Rattle.std.proofs.Common.{◌≡◌, ℕ, ◌+◌, ◌<◌, ◌≤◌, ltb, ◌⊎◌, List, [], ◌∷◌, ◌++◌, take, drop, Some, None, Option, sym, refl, ap, ◌∙◌, ap₂, inl, inr, arith}
 use Rattle.std.proofs.lemmas.Bool.{cases_lt, cond-true, cond-false, lt-ltb, le-ltb}
 use Rattle.terms.specs.Term.{Kind, one, Tree, var, node, nil, cons, Term, Subst, sub, Occurs, size}
 use Rattle.terms.specs.Prefix.{Arities, prefix, expand, image, WellSorted, Reads}
 use Rattle.terms.specs.Place.{Context, plug, place}
 use Rattle.terms.proofs.Reading.{prefix_sub}
 use Rattle.terms.proofs.Places.{bytes_at_a_place}
-use Rattle.stepping.specs.declared.matching.Span.{Span}
-use Rattle.stepping.specs.Bindings.{Bindings, bound_to, piece_of, Agrees}
-use Rattle.stepping.specs.Writing.{SideBytes, instance_bytes, replaced}
+use Rattle.stepping.specs.Bindings.{Part, Bindings, bound_to, piece_of, Agrees}
+use Rattle.stepping.specs.Writing.{instance_bytes, replaced}
 use Rattle.stepping.proofs.Bound.{code_free, piece_free, piece_bound}
 
-pub bound_or_free : (o : Option Span) → ((s : Span) × (o ≡ Some s)) ⊎ (o ≡ None)
+pub bound_or_free : (o : Option Part) → ((s : Part) × (o ≡ Some s)) ⊎ (o ≡ None)
 bound_or_free (Some s) = inl (s, refl)
 bound_or_free None = inr refl
-
--- the bytes of a term are codes and its variables
-bytes_below : {k : Kind} (sig : Arities) (n : ℕ) (t : Tree k) → WellSorted sig n t → (i : ℕ) → i < length (prefix t) → get_or (prefix t) i 0 < 128 + n
-bytes_below sig n (var x) w zero h = w.1
-bytes_below sig n (var x) w (suc i) h = absurd (omega arith)
-bytes_below sig n (node f ts) w zero h = omega (arith, w.0)
-bytes_below sig n (node f ts) w (suc i) h = bytes_below sig n ts w.2 i (omega arith)
-bytes_below sig n nil w i h = absurd (omega arith)
-bytes_below sig n (cons t ts) w i h = go (cases_lt i (length (prefix t))) (bytes_below sig n t w.0 i) (bytes_below sig n ts w.1 (i - length (prefix t)))
-  where
-    go : (i < length (prefix t)) ⊎ (length (prefix t) ≤ i) → (i < length (prefix t) → get_or (prefix t) i 0 < 128 + n) → (i - length (prefix t) < length (prefix ts) → get_or (prefix ts) (i - length (prefix t)) 0 < 128 + n) → get_or (prefix t ++ prefix ts) i 0 < 128 + n
-    go (inl l) first rest = omega (arith, get_or_append_left (prefix t) (prefix ts) 0 i l, first l)
-    go (inr l) first rest = omega (arith, get_or-append_right (prefix t) (prefix ts) (length (prefix t)) i 0 refl l, rest (omega (arith, length-append (prefix t) (prefix ts))))
-
-pub side_bytes : (sig : Arities) (right : List ℕ) (r : Term) → Reads sig 4 right r → SideBytes right
-side_bytes sig right r p = subst SideBytes p.form (bytes_below sig 4 r p.sorted)
 
 -- the variables of a term
 pub variable_range : {k : Kind} (sig : Arities) (n : ℕ) (t : Tree k) → WellSorted sig n t → (x : ℕ) → Occurs x t → (128 ≤ x) × (x < 128 + n)
@@ -44,22 +26,22 @@ expand_same : (f g : ℕ → List ℕ) → ((b : ℕ) → f b ≡ g b) → (bs :
 expand_same f g h [] = refl
 expand_same f g h (b ∷ bs) = ap₂ ◌++◌ (h b) (expand_same f g h bs)
 
-module _ (sig : Arities) (vars : ℕ) (bytes : List ℕ) (bs : Bindings) (σ : Subst) (agrees : Agrees sig vars bytes bs σ) (stays : (x : ℕ) → bound_to bs x ≡ None → σ x ≡ var x) where
+module _ (sig : Arities) (vars : ℕ) (bs : Bindings) (σ : Subst) (agrees : Agrees sig vars bs σ) (stays : (x : ℕ) → bound_to bs x ≡ None → σ x ≡ var x) where
   -- the piece for a byte is its image under the substitution
-  piece_is_image : (b : ℕ) → piece_of bs bytes b ≡ image σ b
+  piece_is_image : (b : ℕ) → piece_of bs b ≡ image σ b
   piece_is_image b = elim (cases_lt b 128) [
-    | inl h ↦ piece_free bs bytes b (code_free bs b h) ∙ sym (cond-true (ltb b 128) (b ∷ []) (prefix (σ b)) (lt-ltb b 128 h))
+    | inl h ↦ piece_free bs b (code_free bs b h) ∙ sym (cond-true (ltb b 128) (b ∷ []) (prefix (σ b)) (lt-ltb b 128 h))
     | inr h ↦
         let is : image σ b ≡ prefix (σ b) = cond-false (ltb b 128) (b ∷ []) (prefix (σ b)) (le-ltb b 128 h) in
         elim (bound_or_free (bound_to bs b)) [
-          | inl s ↦ piece_bound bs bytes b s.0 s.1 ∙ sym (agrees b s.0 s.1).form ∙ sym is
-          | inr e ↦ piece_free bs bytes b e ∙ ap prefix (sym (stays b e)) ∙ sym is
+          | inl s ↦ piece_bound bs b s.0 s.1 ∙ sym (agrees b s.0 s.1).form ∙ sym is
+          | inr e ↦ piece_free bs b e ∙ ap prefix (sym (stays b e)) ∙ sym is
         ]
   ]
 
-  pub instance_is : (right : List ℕ) (r : Term) → Reads sig 4 right r → instance_bytes bs bytes right ≡ prefix (sub σ r)
+  pub instance_is : (right : List ℕ) (r : Term) → Reads sig 4 right r → instance_bytes bs right ≡ prefix (sub σ r)
   instance_is right r p =
-      ap (expand (piece_of bs bytes)) (sym p.form) ∙ expand_same (piece_of bs bytes) (image σ) piece_is_image (prefix r) ∙ sym (prefix_sub sig 4 σ r p.sorted)
+      ap (expand (piece_of bs)) (sym p.form) ∙ expand_same (piece_of bs) (image σ) piece_is_image (prefix r) ∙ sym (prefix_sub sig 4 σ r p.sorted)
 
 -- the bytes of a term with another one in the hole
 pub replaced_is : (term : List ℕ) (p n : ℕ) (C : Context one) (s u : Term) → prefix (plug C s) ≡ term → place C ≡ p → size s ≡ n → replaced term p n (prefix u) ≡ prefix (plug C u)

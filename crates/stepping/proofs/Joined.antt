@@ -1,5 +1,5 @@
 -- The two calls together: a step at the innermost place, by the rule that was found there, is the innermost step. And a step has one result.
-use Rattle.std.proofs.Common.{◌≡◌, ℕ, List, sym, ap, ◌∙◌, subst, ap₂}
+use Rattle.std.proofs.Common.{◌≡◌, ℕ, List, Some, Ok, Err, sym, ap, ◌∙◌, subst, ap₂}
 use Rattle.terms.specs.Term.{Term, Rule, rule_at, Subst, sub, Occurs}
 use Rattle.terms.specs.Prefix.{Arities, Reads}
 use Rattle.terms.specs.Place.{plug}
@@ -8,28 +8,28 @@ use Rattle.terms.proofs.Places.{place_unique}
 use Rattle.rewriting.specs.Rewrite.{StepAt, InnermostStep}
 use Rattle.rewriting.proofs.Substitution.{sub_cong, sub_agree}
 use Rattle.rewriting.proofs.Unification.{occurs?}
-use Rattle.stepping.specs.declared.outcome.Rewritten.TheVariants as rewritten
-use Rattle.stepping.specs.declared.outcome.Innermost.TheVariants as innermost
+use Rattle.stepping.specs.declared.outcome.RewriteFault.TheVariants as fault
+use Rattle.stepping.specs.declared.outcome.Redex.{Redex}
 use Rattle.stepping.specs.Stepping.{OneStep, Stepped, RewriteAnswer, InnermostBy, InnermostAnswer}
 
 pub innermost_step : (rs : List Rule) (t u : Term) (p k : ℕ) → InnermostBy rs t p k → StepAt rs k p t u → InnermostStep rs t p k u
 innermost_step rs t u p k i s = record { innermost = i.innermost; least = i.least; lowest = i.lowest; step = s }
 
 -- what is found is no refusal of the step, and what the step gives is the result of the innermost step
-module _ (sig : Arities) (vars : ℕ) (rs : List Rule) (bs : List ℕ) (p k : ℕ) (found : InnermostAnswer sig vars rs bs (innermost.Found p k)) where
-  found_at : (t : Term) → Reads sig vars bs t → InnermostBy rs t p k
-  found_at t r = subst (λ s. InnermostBy rs s p k) (same_bytes_same_term sig vars vars bs found.0 t found.1 r) found.2
+module _ (sig : Arities) (vars : ℕ) (rs : List Rule) (bs : List ℕ) (r : Redex) (found : InnermostAnswer sig vars rs bs (Ok (Some r))) where
+  found_at : (t : Term) → Reads sig vars bs t → InnermostBy rs t r.place r.rule
+  found_at t reads = subst (λ s. InnermostBy rs s r.place r.rule) (same_bytes_same_term sig vars vars bs found.0 t found.1 reads) found.2
 
-  pub found_term : (page after : List ℕ) → RewriteAnswer sig vars rs bs k p page after rewritten.NoTerm → ⊥
+  pub found_term : (page after : List ℕ) → RewriteAnswer sig vars rs bs r.rule r.place page after (Err fault.NoTerm) → ⊥
   found_term page after a = a.0 (found.0, found.1)
 
-  pub found_match : (page after : List ℕ) → RewriteAnswer sig vars rs bs k p page after rewritten.NoMatch → ⊥
+  pub found_match : (page after : List ℕ) → RewriteAnswer sig vars rs bs r.rule r.place page after (Err fault.NoMatch) → ⊥
   found_match page after a =
       let i = found_at a.0.0 a.0.1 in
       a.0.2 (record { inside = i.innermost.matched.inside; matches = i.matches })
 
-  pub found_step : (t u : Term) → Stepped sig vars rs bs k p t u → InnermostStep rs t p k u
-  found_step t u s = innermost_step rs t u p k (found_at t s.reads) s.step.step
+  pub found_step : (t u : Term) → Stepped sig vars rs bs r.rule r.place t u → InnermostStep rs t r.place r.rule u
+  found_step t u s = innermost_step rs t u r.place r.rule (found_at t s.reads) s.step.step
 
 -- a step in which new variables stay themselves is determined by its rule and its place
 pub one_result : (rs : List Rule) (t u v : Term) (k p : ℕ) → OneStep rs k p t u → OneStep rs k p t v → u ≡ v

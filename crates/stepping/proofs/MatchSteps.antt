@@ -1,17 +1,18 @@
 -- The steps of matching. A loop over the bytes of the left side keeps two lists of terms of the same length: the patterns `ls` that are still to be
 -- matched, and the terms `ts` that they are to match. Matching these, under the bindings so far, is the same as matching all.
-use Rattle.std.proofs.Common.{◌≡◌, ℕ, ◌+◌, ◌-◌, ◌<◌, ◌≤◌, true, false, ◌⊎◌, List, ◌++◌, length, get_or, take, drop, set, Some, None, sym, refl, ap, ◌∙◌, subst, ap₂, inl, inr, append_assoc, append-nil, arith, length-append, length-drop}
+use Rattle.std.proofs.Common.{◌≡◌, ℕ, ◌+◌, ◌-◌, ◌<◌, ◌≤◌, ◌⊎◌, List, ◌++◌, length, get_or, take, drop, set, Some, None, sym, refl, ap, ◌∙◌, subst, ap₂, inl, inr, append_assoc, append-nil, arith, length-append, length-drop}
 use Rattle.std.proofs.lemmas.List.{drop_at, drop-drop}
+use Rattle.std.proofs.lemmas.Option.{none-some}
 use Rattle.terms.specs.Term.{var, node, nil, cons, Term, Terms, how_many, size, Subst, sub, Occurs}
 use Rattle.terms.specs.Prefix.{Arities, prefix, WellSorted, Reads, FirstTerm}
 use Rattle.terms.proofs.Reading.{join, prefix_length, size_pos, same_bytes_same_term}
 use Rattle.terms.proofs.Scans.{prefix_join, some_same}
 use Rattle.rewriting.proofs.Substitution.{update, update_case}
 use Rattle.rewriting.proofs.Sorted.{many_sub}
-use Rattle.stepping.specs.declared.matching.Span.{Span}
-use Rattle.stepping.specs.Bindings.{cut, Bindings, AllWithin, bound_to, Binds, Agrees, Matched}
+use Rattle.stepping.specs.declared.matching.Substitution.{Substitution}
+use Rattle.stepping.specs.Bindings.{Part, Bindings, bound_to, Binds, Agrees, Matched}
 use Rattle.stepping.proofs.Bytes.{first_byte, first_term_is, first_term_some}
-use Rattle.stepping.proofs.Bound.{free_not_bound, variable_bound, bound_now, bound_other, bound_before}
+use Rattle.stepping.proofs.Bound.{variable_bound, bound_now, bound_other, bound_before}
 
 -- ── lists of terms ──
 
@@ -69,12 +70,12 @@ module _ (sig : Arities) (vars : ℕ) (left bytes : List ℕ) (l t : Term) (rest
     pub ls_bytes : prefix ls ≡ drop i left
     pub ts_bytes : prefix ts ++ rest ≡ drop j bytes
     pub σ : Subst
-    pub agrees : Agrees sig vars bytes bs σ
+    pub agrees : Agrees sig vars bs σ
     pub stays : (x : ℕ) → bound_to bs x ≡ None → σ x ≡ var x
-    pub sound : (τ : Subst) → Agrees sig vars bytes bs τ → sub τ ls ≡ ts → sub τ l ≡ t
-    pub complete : (τ : Subst) → sub τ l ≡ t → Agrees sig vars bytes bs τ × (sub τ ls ≡ ts)
+    pub sound : (τ : Subst) → Agrees sig vars bs τ → sub τ ls ≡ ts → sub τ l ≡ t
+    pub complete : (τ : Subst) → sub τ l ≡ t → Agrees sig vars bs τ × (sub τ ls ≡ ts)
     pub listed : (x : ℕ) → Occurs x ls → Occurs x l
-    pub bound : (x : ℕ) (s : Span) → bound_to bs x ≡ Some s → Occurs x l
+    pub bound : (x : ℕ) (s : Part) → bound_to bs x ≡ Some s → Occurs x l
 
   -- the state of the loop, with the lists that it stands for
   abbrev pub State : ℕ → ℕ → Bindings → Type 0
@@ -83,7 +84,7 @@ module _ (sig : Arities) (vars : ℕ) (left bytes : List ℕ) (l t : Term) (rest
   -- the start: all is to be matched, and nothing is bound
   pub start : (bs : Bindings) → ((x : ℕ) → bound_to bs x ≡ None) → Reads sig 4 left l → WellSorted sig vars t → prefix t ++ rest ≡ bytes → State 0 0 bs
   start bs free p w e =
-      let none : (τ : Subst) → Agrees sig vars bytes bs τ = λ τ x s d. absurd (free_not_bound (free x) d) in (
+      let none : (τ : Subst) → Agrees sig vars bs τ = λ τ x s d. absurd (none-some s (sym (free x) ∙ d)) in (
         cons l nil,
         cons t nil,
         record {
@@ -98,7 +99,7 @@ module _ (sig : Arities) (vars : ℕ) (left bytes : List ℕ) (l t : Term) (rest
           sound = λ τ a d. head_is d;
           complete = λ τ d. (none τ, ap (λ u. cons u nil) d);
           listed = λ x o. elim o [ inl h ↦ h | inr h ↦ absurd h ];
-          bound = λ x s d. absurd (free_not_bound (free x) d);
+          bound = λ x s d. absurd (none-some s (sym (free x) ∙ d));
         },
       )
 
@@ -152,12 +153,12 @@ module _ (sig : Arities) (vars : ℕ) (left bytes : List ℕ) (l t : Term) (rest
       e (d.here ∙ sym (code_is (head_is (g.complete τ r).1)) ∙ sym b.here)
 
   -- the pattern x meets the term u, whose bytes are those of the part
-  module _ (i j : ℕ) (bs : Bindings) (x : ℕ) (ls : Terms) (u : Term) (ts : Terms) (g : Going i j bs (cons (var x) ls) (cons u ts)) (part : Span) (e : prefix u ≡ cut bytes part) where
-    read : Reads sig vars (cut bytes part) u
+  module _ (i j : ℕ) (bs : Bindings) (x : ℕ) (ls : Terms) (u : Term) (ts : Terms) (g : Going i j bs (cons (var x) ls) (cons u ts)) (part : Part) (e : prefix u ≡ part.now) where
+    read : Reads sig vars part.now u
     read = record { sorted = g.ts_sorted.0; form = e }
 
-    is_u : (τ : Subst) → Reads sig vars (cut bytes part) (τ x) → τ x ≡ u
-    is_u τ h = same_bytes_same_term sig vars vars (cut bytes part) (τ x) u h read
+    is_u : (τ : Subst) → Reads sig vars part.now (τ x) → τ x ≡ u
+    is_u τ h = same_bytes_same_term sig vars vars part.now (τ x) u h read
 
     ls_next : prefix ls ≡ drop (i + 1) left
     ls_next = (first_byte x (prefix ls) left i g.ls_bytes).rest
@@ -176,13 +177,13 @@ module _ (sig : Arities) (vars : ℕ) (left bytes : List ℕ) (l t : Term) (rest
         let now = bound_now bs x part code inside in
         let other = bound_other bs x part code inside in
         let before = bound_before bs x part code inside in
-        let more : (τ : Subst) → Agrees sig vars bytes bs τ → Reads sig vars (cut bytes part) (τ x) → Agrees sig vars bytes after τ = λ τ a h y s d.
+        let more : (τ : Subst) → Agrees sig vars bs τ → Reads sig vars part.now (τ x) → Agrees sig vars after τ = λ τ a h y s d.
         elim (before y s d) [
-          | inl p ↦ subst (λ r. Reads sig vars (cut bytes r) (τ y)) p.1 (subst (λ z. Reads sig vars (cut bytes part) (τ z)) (sym p.0) h)
+          | inl p ↦ subst (λ r. Reads sig vars r.now (τ y)) p.1 (subst (λ z. Reads sig vars part.now (τ z)) (sym p.0) h)
           | inr q ↦ a y s q
         ] in
-        let less : (τ : Subst) → Agrees sig vars bytes after τ → Agrees sig vars bytes bs τ = λ τ a y s d.
-        a y s (other y (λ p. free_not_bound free (subst (λ z. bound_to bs z ≡ Some s) p d)) ∙ d) in (
+        let less : (τ : Subst) → Agrees sig vars after τ → Agrees sig vars bs τ = λ τ a y s d.
+        a y s (other y (λ p. none-some s (sym free ∙ subst (λ z. bound_to bs z ≡ Some s) p d)) ∙ d) in (
           ls,
           ts,
           record {
@@ -192,23 +193,23 @@ module _ (sig : Arities) (vars : ℕ) (left bytes : List ℕ) (l t : Term) (rest
             ls_bytes = ls_next;
             ts_bytes = ts_next;
             σ = update g.σ x u;
-            agrees = update_case g.σ x u (λ y v. (s : Span) → bound_to after y ≡ Some s → Reads sig vars (cut bytes s) v)
-                (λ s d. elim (before x s d) [ inl p ↦ subst (λ r. Reads sig vars (cut bytes r) u) p.1 read | inr q ↦ absurd (free_not_bound free q) ])
+            agrees = update_case g.σ x u (λ y v. (s : Part) → bound_to after y ≡ Some s → Reads sig vars s.now v)
+                (λ s d. elim (before x s d) [ inl p ↦ subst (λ r. Reads sig vars r.now u) p.1 read | inr q ↦ absurd (none-some s (sym free ∙ q)) ])
                 (λ y n s d. g.agrees y s (sym (other y n) ∙ d));
             stays = update_case g.σ x u (λ y v. bound_to after y ≡ None → v ≡ var y)
-                (λ d. absurd (free_not_bound d now))
+                (λ d. absurd (none-some part (sym d ∙ now)))
                 (λ y n d. g.stays y (sym (other y n) ∙ d));
             sound = λ τ a r. g.sound τ (less τ a) (ap₂ cons (is_u τ (a x part now)) r);
             complete = λ τ r.
                 let p = g.complete τ r in
-                (more τ p.0 (subst (Reads sig vars (cut bytes part)) (sym (head_is p.1)) read), tail_is p.1);
+                (more τ p.0 (subst (Reads sig vars part.now) (sym (head_is p.1)) read), tail_is p.1);
             listed = λ y o. g.listed y (inr o);
             bound = λ y s d. elim (before y s d) [ inl p ↦ g.listed y (inl p.0) | inr q ↦ g.bound y s q ];
           },
         )
 
     -- x was bound to the same bytes
-    bind_again : (s : Span) → bound_to bs x ≡ Some s → cut bytes s ≡ cut bytes part → State (i + 1) (j + size u) bs
+    bind_again : (s : Part) → bound_to bs x ≡ Some s → s.now ≡ part.now → State (i + 1) (j + size u) bs
     bind_again s bound q = (
       ls,
       ts,
@@ -229,23 +230,23 @@ module _ (sig : Arities) (vars : ℕ) (left bytes : List ℕ) (l t : Term) (rest
     )
 
     -- x was bound to other bytes
-    bind_clash : (s : Span) → bound_to bs x ≡ Some s → (cut bytes s ≡ cut bytes part → ⊥) → (τ : Subst) → sub τ l ≡ t → ⊥
+    bind_clash : (s : Part) → bound_to bs x ≡ Some s → (s.now ≡ part.now → ⊥) → (τ : Subst) → sub τ l ≡ t → ⊥
     bind_clash s bound q τ r =
         let p = g.complete τ r in
         q (sym (p.0 x s bound).form ∙ ap prefix (head_is p.1) ∙ e)
 
   -- the pattern is a variable: it is bound to the first term that is left
-  module _ (i j n : ℕ) (bs : Bindings) (part : Span) (at_j : part.start ≡ j) (of_n : part.len ≡ n) (h : i < length left) (k : 128 ≤ get_or left i 0) (first : FirstTerm sig vars (drop j bytes) (Some n)) where
+  module _ (i j n : ℕ) (bs : Bindings) (part : Part) (is : part.now ≡ take n (drop j bytes)) (h : i < length left) (k : 128 ≤ get_or left i 0) (first : FirstTerm sig vars (drop j bytes) (Some n)) where
     -- the part has the bytes of the first term that is left
-    first_part : (u : Term) (ts : Terms) → WellSorted sig vars u → prefix (cons u ts) ++ rest ≡ drop j bytes → (n ≡ size u) × (prefix u ≡ cut bytes part)
+    first_part : (u : Term) (ts : Terms) → WellSorted sig vars u → prefix (cons u ts) ++ rest ≡ drop j bytes → (n ≡ size u) × (prefix u ≡ part.now)
     first_part u ts w e =
         let f = first_term_is sig vars (drop j bytes) n first u (prefix ts ++ rest) w (first_and_others u ts rest (drop j bytes) e) in
-        (f.0, f.1 ∙ ap₂ (λ a b. take a (drop b bytes)) (sym of_n) (sym at_j))
+        (f.0, f.1 ∙ sym is)
 
     variable_is : (x : ℕ) (ls : Terms) → prefix (cons (var x) ls) ≡ drop i left → get_or left i 0 ≡ x
     variable_is x ls e = (first_byte x (prefix ls) left i e).here
 
-    pub variable_step : (after : Bindings) (ls ts : Terms) → Going i j bs ls ts → length bs ≡ 4 → Binds bytes bs (get_or left i 0 - 128) part true after → State (i + 1) (j + n) after
+    pub variable_step : (after : Substitution) (ls ts : Terms) → Going i j bs ls ts → length bs ≡ 4 → Binds bs (get_or left i 0 - 128) part (Some after) → State (i + 1) (j + n) after.parts
     variable_step after nil ts g z b = absurd (omega (arith, ap length g.ls_bytes, length-drop i left))
     variable_step after (cons (node f us) ls) ts g z b = absurd (omega (arith, g.ls_sorted.0.0, (first_byte f (prefix us ++ prefix ls) left i g.ls_bytes).here))
     variable_step after (cons (var x) ls) nil g z b = absurd (omega (arith, g.same))
@@ -253,22 +254,22 @@ module _ (sig : Arities) (vars : ℕ) (left bytes : List ℕ) (l t : Term) (rest
         let w = g.ls_sorted.0 in
         let p = first_part u ts g.ts_sorted.0 g.ts_bytes in
         let is = variable_bound bs x w.0 in
-        elim (subst (λ y. Binds bytes bs (y - 128) part true after) (variable_is x ls g.ls_bytes) b) [
+        elim (subst (λ y. Binds bs (y - 128) part (Some after)) (variable_is x ls g.ls_bytes) b) [
           | inl c ↦
-              subst (λ m. State (i + 1) (j + m) after) (sym p.0)
+              subst (λ m. State (i + 1) (j + m) after.parts) (sym p.0)
               (subst (State (i + 1) (j + size u)) (sym c.1) (bind_free i j bs x ls u ts g part p.1 (is ∙ c.0) (omega (arith, w.1))))
           | inr c ↦
-              subst (λ m. State (i + 1) (j + m) after) (sym p.0)
+              subst (λ m. State (i + 1) (j + m) after.parts) (sym p.0)
               (subst (State (i + 1) (j + size u)) (sym c.3) (bind_again i j bs x ls u ts g part p.1 c.0 (is ∙ c.1) c.2))
         ]
 
-    pub variable_clash : (after : Bindings) (ls ts : Terms) → Going i j bs ls ts → Binds bytes bs (get_or left i 0 - 128) part false after → (τ : Subst) → sub τ l ≡ t → ⊥
-    variable_clash after nil ts g b τ r = omega (arith, ap length g.ls_bytes, length-drop i left)
-    variable_clash after (cons (node f us) ls) ts g b τ r = omega (arith, g.ls_sorted.0.0, (first_byte f (prefix us ++ prefix ls) left i g.ls_bytes).here)
-    variable_clash after (cons (var x) ls) nil g b τ r = omega (arith, g.same)
-    variable_clash after (cons (var x) ls) (cons u ts) g b τ r =
+    pub variable_clash : (ls ts : Terms) → Going i j bs ls ts → Binds bs (get_or left i 0 - 128) part None → (τ : Subst) → sub τ l ≡ t → ⊥
+    variable_clash nil ts g b τ r = omega (arith, ap length g.ls_bytes, length-drop i left)
+    variable_clash (cons (node f us) ls) ts g b τ r = omega (arith, g.ls_sorted.0.0, (first_byte f (prefix us ++ prefix ls) left i g.ls_bytes).here)
+    variable_clash (cons (var x) ls) nil g b τ r = omega (arith, g.same)
+    variable_clash (cons (var x) ls) (cons u ts) g b τ r =
         let p = first_part u ts g.ts_sorted.0 g.ts_bytes in
-        let c = subst (λ y. Binds bytes bs (y - 128) part false after) (variable_is x ls g.ls_bytes) b in
+        let c = subst (λ y. Binds bs (y - 128) part None) (variable_is x ls g.ls_bytes) b in
         bind_clash i j bs x ls u ts g part p.1 c.0 (variable_bound bs x g.ls_sorted.0.0 ∙ c.1) c.2 τ r
 
   -- a pattern's variable is one of the four, and a term begins what is left
@@ -283,15 +284,14 @@ module _ (sig : Arities) (vars : ℕ) (left bytes : List ℕ) (l t : Term) (rest
   some_term i j bs (cons p ls) (cons u ts) g h f = first_term_some sig vars (drop j bytes) f u (prefix ts ++ rest) g.ts_sorted.0 (first_and_others u ts rest (drop j bytes) g.ts_bytes)
 
   -- nothing is left
-  pub finish : (i j : ℕ) (bs : Bindings) (ls ts : Terms) → Going i j bs ls ts → length left ≤ i → j ≤ length bytes → prefix t ++ rest ≡ bytes → AllWithin bytes bs → Matched sig vars bytes l t bs j
-  finish i j bs (cons p ls) ts g h b e w = absurd (omega (arith, size_pos p, prefix_length p, length-append (prefix p) (prefix ls), ap length g.ls_bytes, length-drop i left))
-  finish i j bs nil (cons u ts) g h b e w = absurd (omega (arith, g.same))
-  finish i j bs nil nil g h b e w = record {
+  pub finish : (i j : ℕ) (bs : Bindings) (ls ts : Terms) → Going i j bs ls ts → length left ≤ i → j ≤ length bytes → prefix t ++ rest ≡ bytes → Matched sig vars l t bs j
+  finish i j bs (cons p ls) ts g h b e = absurd (omega (arith, size_pos p, prefix_length p, length-append (prefix p) (prefix ls), ap length g.ls_bytes, length-drop i left))
+  finish i j bs nil (cons u ts) g h b e = absurd (omega (arith, g.same))
+  finish i j bs nil nil g h b e = record {
     instance = g.σ;
     is = g.sound g.σ g.agrees refl;
     agrees = g.agrees;
     stays = g.stays;
     occurs = g.bound;
-    within = w;
     long = omega (arith, prefix_length t, length-append (prefix t) rest, ap length e, ap length g.ts_bytes, length-drop j bytes);
   }

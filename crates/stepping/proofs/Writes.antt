@@ -1,7 +1,6 @@
 -- What is written piece by piece is written as a whole.
-use Rattle.std.proofs.Common.{◌≡◌, ℕ, ◌+◌, ◌-◌, ◌<◌, ◌≤◌, false, List, [], ◌∷◌, ◌++◌, length, get_or, take, drop, Some, None, Decides, sym, refl, ap, ◌∙◌, subst, ap₂, inl, inr, append_assoc, append-nil, arith, length-append, length-drop, take-append-drop}
+use Rattle.std.proofs.Common.{◌≡◌, ℕ, ◌+◌, ◌-◌, ◌<◌, ◌≤◌, List, [], ◌∷◌, ◌++◌, length, get_or, take, drop, Some, None, sym, refl, ap, ◌∙◌, subst, ap₂, append_assoc, append-nil, arith, length-append, length-drop, take-append-drop}
 use Rattle.std.proofs.lemmas.List.{take_more, take_all, drop-drop, take_rest, length-take-le}
-use Rattle.std.proofs.lemmas.Bool.{cases_lt, false≢true}
 use Rattle.terms.specs.Prefix.{expand}
 use Rattle.terms.proofs.Reading.{expand_append}
 use Rattle.stepping.specs.Writing.{Written, PutInFront, replaced}
@@ -57,18 +56,17 @@ module _ (term : List ℕ) (p n : ℕ) (inside : p + n ≤ length term) (new : L
 
   -- what stands before the part, what replaces it, and what stands behind, written one after the other
   pub three_writes : (page one two after : List ℕ) (a b r : ℕ)
-      → (a ≡ 0 + length (take (p - 0) (drop 0 term))) → Written page 0 (take (p - 0) (drop 0 term)) one
+      → (a ≡ 0 + length (take p term)) → Written page 0 (take p term) one
       → (b ≡ a + length new) → Written one a new two
       → (r ≡ b + length (take (length term - (p + n)) (drop (p + n) term))) → Written two b (take (length term - (p + n)) (drop (p + n) term)) after
       → length term - n ≤ length page → length new ≤ length page - (length term - n)
       → PutInFront page (replaced term p n new) after (Some r)
   three_writes page one two after a b r a_is w₁ b_is w₂ r_is w₃ fits room =
-      let e₁ : take (p - 0) (drop 0 term) ≡ take p term = ap (λ k. take k term) (omega arith) in
-      let e₂ = take_rest term (p + n) in
-      let behind = written_then one two after a b new (drop (p + n) term) b_is w₂ (subst (λ w. Written two b w after) e₂ w₃) in
-      let all = written_then page one after 0 a (take p term) (new ++ drop (p + n) term) (a_is ∙ ap (λ w. 0 + length w) e₁) (subst (λ w. Written page 0 w one) e₁ w₁) behind in
+      let e = take_rest term (p + n) in
+      let behind = written_then one two after a b new (drop (p + n) term) b_is w₂ (subst (λ w. Written two b w after) e w₃) in
+      let all = written_then page one after 0 a (take p term) (new ++ drop (p + n) term) a_is w₁ behind in
       let long : r ≡ length (replaced term p n new) =
-      omega (arith, replaced_length, length-take-le p term (omega arith), ap length e₁, ap length e₂, length-drop (p + n) term) in (
+      omega (arith, replaced_length, length-take-le p term (omega arith), ap length e, length-drop (p + n) term) in (
         long,
         omega (arith, replaced_length),
         written_front page after (replaced term p n new) all ∙ ap (λ k. replaced term p n new ++ drop k page) (sym long),
@@ -76,7 +74,3 @@ module _ (term : List ℕ) (p n : ℕ) (inside : p + n ≤ length term) (new : L
 
   pub no_room : (page : List ℕ) → length page < (length term - n) + length new → PutInFront page (replaced term p n new) page None
   no_room page h = (omega (arith, replaced_length), refl)
-
--- what does not fit is longer
-pub too_long : (m room : ℕ) → Decides false (m ≤ room) → room < m
-too_long m room d = elim (cases_lt room m) [ inl h ↦ h | inr h ↦ absurd (false≢true (d.1 h)) ]

@@ -1,14 +1,14 @@
 -- What the calls answer: of a step of a rule at a place, and of the innermost step.
-use Rattle.std.specs.Prelude.{◌≡◌, ℕ, ◌<◌, ◌≤◌, ◌⊎◌, List, ◌++◌, length, drop}
+use Rattle.std.specs.Prelude.{◌≡◌, ℕ, ◌<◌, ◌≤◌, ◌⊎◌, List, ◌++◌, length, drop, Some, None, Option, Ok, Err, Result}
 use Rattle.terms.specs.Term.{var, Term, Rule, rule_at, Occurs, size}
 use Rattle.terms.specs.Prefix.{Arities, prefix, WellSorted, Reads, IsTerm}
 use Rattle.terms.specs.Place.{part}
 use Rattle.rewriting.specs.Relation.{Normal}
 use Rattle.rewriting.specs.Rewrite.{Matches, Step, StepAt, MatchedAt, InnermostAt}
-use Rattle.stepping.specs.declared.outcome.Rewritten.{Rewritten}
-use Rattle.stepping.specs.declared.outcome.Rewritten.TheVariants as rewritten
-use Rattle.stepping.specs.declared.outcome.Innermost.{Innermost}
-use Rattle.stepping.specs.declared.outcome.Innermost.TheVariants as innermost
+use Rattle.stepping.specs.declared.outcome.RewriteFault.{RewriteFault}
+use Rattle.stepping.specs.declared.outcome.RewriteFault.TheVariants as fault
+use Rattle.stepping.specs.declared.outcome.NotATerm.{NotATerm}
+use Rattle.stepping.specs.declared.outcome.Redex.{Redex}
 
 -- the rule k matches the part of t at the place p
 pub record MatchedBy (rs : List Rule) (k : ℕ) (t : Term) (p : ℕ) : Type 0 where
@@ -40,15 +40,15 @@ module _ (sig : Arities) (vars : ℕ) (rs : List Rule) (bs : List ℕ) where
     pub sorted : (4 ≤ vars) ⊎ NothingNew rs k → WellSorted sig vars u
 
   -- a step of the rule k at the place p of the term that the bytes are: what the answer says, and what the page holds after
-  abbrev pub RewriteAnswer : ℕ → ℕ → List ℕ → List ℕ → Rewritten → Type 0
-  RewriteAnswer k p page after rewritten.NoTerm = (IsTerm sig vars bs → ⊥) × (after ≡ page)
-  RewriteAnswer k p page after rewritten.NoMatch = ((t : Term) × Reads sig vars bs t × (MatchedBy rs k t p → ⊥)) × (after ≡ page)
-  RewriteAnswer k p page after rewritten.NoRoom = ((t : Term) × (u : Term) × Stepped k p t u × (length page < size u)) × (after ≡ page)
-  RewriteAnswer k p page after (rewritten.Done n) =
+  abbrev pub RewriteAnswer : ℕ → ℕ → List ℕ → List ℕ → Result ℕ RewriteFault → Type 0
+  RewriteAnswer k p page after (Err fault.NoTerm) = (IsTerm sig vars bs → ⊥) × (after ≡ page)
+  RewriteAnswer k p page after (Err fault.NoMatch) = ((t : Term) × Reads sig vars bs t × (MatchedBy rs k t p → ⊥)) × (after ≡ page)
+  RewriteAnswer k p page after (Err fault.NoRoom) = ((t : Term) × (u : Term) × Stepped k p t u × (length page < size u)) × (after ≡ page)
+  RewriteAnswer k p page after (Ok n) =
       (t : Term) × (u : Term) × Stepped k p t u × (n ≡ size u) × (n ≤ length page) × (after ≡ prefix u ++ drop n page)
 
-  -- the innermost step of the term that the bytes are
-  abbrev pub InnermostAnswer : Innermost → Type 0
-  InnermostAnswer innermost.NoTerm = IsTerm sig vars bs → ⊥
-  InnermostAnswer innermost.Normal = (t : Term) × Reads sig vars bs t × ((p : ℕ) → MatchedAt rs t p → ⊥) × Normal (Step rs) t
-  InnermostAnswer (innermost.Found p k) = (t : Term) × Reads sig vars bs t × InnermostBy rs t p k
+  -- the innermost step of the term that the bytes are; None if the term is a normal form
+  abbrev pub InnermostAnswer : Result (Option Redex) NotATerm → Type 0
+  InnermostAnswer (Err _) = IsTerm sig vars bs → ⊥
+  InnermostAnswer (Ok None) = (t : Term) × Reads sig vars bs t × ((p : ℕ) → MatchedAt rs t p → ⊥) × Normal (Step rs) t
+  InnermostAnswer (Ok (Some r)) = (t : Term) × Reads sig vars bs t × InnermostBy rs t r.place r.rule

@@ -7,4 +7,5 @@ mod matching;
 pub mod outcome;
 pub mod search;
 pub mod step;
+mod subject;
 mod writing;

@@ -1,18 +1,20 @@
 // What the calls answer.
 
-// What became of a term at a place: the bytes are no term, the rule does not match there, the new term has no room on the page, or it has this many bytes.
-#[derive(Clone, Copy)]
-pub enum Rewritten {
+// Why a term is not rewritten at a place: the bytes are no term, the rule does not match there, or the new term has no room on the page.
+#[derive(Clone, Copy, PartialEq, Eq, Debug)]
+pub enum RewriteFault {
     NoTerm,
     NoMatch,
     NoRoom,
-    Done(usize),
 }
 
-// The innermost step of a term: the bytes are no term, no rule matches anywhere, or the place and the rule of the step.
-#[derive(Clone, Copy)]
-pub enum Innermost {
-    NoTerm,
-    Normal,
-    Found(usize, usize),
+// The bytes are no term.
+#[derive(Clone, Copy, PartialEq, Eq, Debug)]
+pub struct NotATerm;
+
+// A place of a term where a rule matches, and the rule.
+#[derive(Clone, Copy, PartialEq, Eq, Debug)]
+pub struct Redex {
+    pub place: usize,
+    pub rule: usize,
 }

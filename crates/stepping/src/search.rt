@@ -1,72 +1,61 @@
 // The innermost step: at the least place where a rule matches and none matches further inside, by the lowest rule that matches there.
-ghost use Rattle.std.specs.Prelude.{◌<◌, length};
-ghost use Rattle.terms.specs.Term.{Term};
-ghost use Rattle.terms.specs.Prefix.{IsTerm, Reads};
 ghost use Rattle.book.specs.Meaning.{signature_of, rules_of};
 ghost use Rattle.stepping.specs.Stepping.{InnermostAnswer};
-ghost use Rattle.stepping.specs.Redexes.{FoundThere, FoundInnermost};
 
-use crate::matching::matches;
-use crate::outcome::Innermost;
+use crate::outcome::{NotATerm, Redex};
+use crate::subject::Subject;
 use book::book::Book;
-use terms::prefix::is_term;
 
-// A part that a rule matches.
+// A part that a rule matches, with its length.
 #[derive(Clone, Copy)]
-pub(crate) struct Redex {
-    start: usize,
+pub(crate) struct Candidate {
+    redex: Redex,
     len: usize,
-    rule: usize,
 }
 
-// The part at a place with the lowest rule that matches it, or None if none does.
-fn redex_at(book: &Book, variables: u8, term: &[u8], place: usize) -> Option<Redex>
-    requires term { IsTerm (signature_of book.now.tables.bytes.now) variables term.now }
-    requires place_in_bounds { place < length term.now }
-    ensures { (t : Term)
-        → Reads (signature_of book.now.tables.bytes.now) variables term.now t
-        → FoundThere (rules_of book.now.tables.bytes.now) t place result }
-{
-    let part = &term[place..];
-    for rule in 0..book.rule_count() {
-        let Some(sides) = book.sides(rule) else {
-            return None;
-        };
-        if let Some(found) = matches(book, variables, sides.left, part) {
-            return Some(Redex {
-                start: place,
-                len: found.len,
-                rule,
-            });
-        }
-    }
-    None
-}
+impl<'t> Subject<'t> {
+    ghost use Rattle.std.specs.Prelude.{◌<◌, length};
+    ghost use Rattle.stepping.specs.Subjects.{rules_on, term_on};
+    ghost use Rattle.stepping.specs.Redexes.{FoundThere, FoundInnermost};
 
-// The innermost part that a rule matches, the first of several, or None if no rule matches anywhere.
-fn innermost_redex(book: &Book, variables: u8, term: &[u8]) -> Option<Redex>
-    requires { IsTerm (signature_of book.now.tables.bytes.now) variables term.now }
-    ensures { (t : Term)
-        → Reads (signature_of book.now.tables.bytes.now) variables term.now t
-        → FoundInnermost (rules_of book.now.tables.bytes.now) t result }
-{
-    let mut found: Option<Redex> = None;
-    for place in 0..term.len() {
-        if let Some(candidate) = found {
-            // its part has ended, and no rule matched inside
-            if candidate.len <= place - candidate.start {
-                return found;
+    // The part at a place with the lowest rule that matches it, or None if none does.
+    fn redex_at(&self, place: usize) -> Option<Candidate>
+        requires { place < length self.now.term.now }
+        ensures { FoundThere (rules_on self.now) (term_on self.now) place result }
+    {
+        for rule in 0..self.book.rule_count() {
+            if let Some(matched) = self.match_at(rule, place) {
+                return Some(Candidate {
+                    redex: Redex { place, rule },
+                    len: matched.len,
+                });
             }
         }
-        if let Some(redex) = redex_at(book, variables, term, place) {
-            found = Some(redex);
-        }
+        None
     }
-    found
+
+    // The innermost part that a rule matches, the first of several, or None if no rule matches anywhere.
+    fn innermost_redex(&self) -> Option<Redex>
+        ensures { FoundInnermost (rules_on self.now) (term_on self.now) result }
+    {
+        let mut found: Option<Candidate> = None;
+        for place in 0..self.term.len() {
+            if let Some(candidate) = found {
+                // its part has ended, and no rule matched inside
+                if candidate.len <= place - candidate.redex.place {
+                    return Some(candidate.redex);
+                }
+            }
+            if let Some(candidate) = self.redex_at(place) {
+                found = Some(candidate);
+            }
+        }
+        found.map(|candidate| candidate.redex)
+    }
 }
 
-// The place and the rule of the innermost step of the term with the first `variables` variables.
-pub fn innermost(book: &Book, variables: u8, term: &[u8]) -> Innermost
+// The place and the rule of the innermost step of the term with the first `variables` variables, or None if it is a normal form.
+pub fn innermost(book: &Book, variables: u8, term: &[u8]) -> Result<Option<Redex>, NotATerm>
     ensures { InnermostAnswer
         (signature_of book.now.tables.bytes.now)
         variables
@@ -74,11 +63,6 @@ pub fn innermost(book: &Book, variables: u8, term: &[u8]) -> Innermost
         term.now
         result }
 {
-    if !is_term(book, variables, term) {
-        return Innermost::NoTerm;
-    }
-    match innermost_redex(book, variables, term) {
-        Some(redex) => Innermost::Found(redex.start, redex.rule),
-        None => Innermost::Normal,
-    }
+    let subject = Subject::new(book, variables, term).ok_or(NotATerm)?;
+    Ok(subject.innermost_redex())
 }

@@ -2,11 +2,9 @@
 ghost use Rattle.book.specs.Meaning.{signature_of, rules_of};
 ghost use Rattle.stepping.specs.Stepping.{RewriteAnswer};
 
-use crate::matching::matches;
-use crate::outcome::Rewritten;
-use crate::writing::write_replaced;
+use crate::outcome::RewriteFault;
+use crate::subject::Subject;
 use book::book::Book;
-use terms::prefix::is_term;
 
 // Rewrites the term, with the first `variables` variables, by a rule of the book at a place, and writes the new term to the front of the page. Nothing is
 // written unless all of it is. A variable of the right side that the left side lacks stays itself.
@@ -17,7 +15,7 @@ pub fn rewrite_at(
     rule: usize,
     place: usize,
     page: &mut [u8],
-) -> Rewritten
+) -> Result<usize, RewriteFault>
     ensures { RewriteAnswer
         (signature_of book.now.tables.bytes.now)
         variables
@@ -29,20 +27,9 @@ pub fn rewrite_at(
         page.new
         result }
 {
-    if !is_term(book, variables, term) {
-        return Rewritten::NoTerm;
-    }
-    if place >= term.len() {
-        return Rewritten::NoMatch;
-    }
-    let Some(sides) = book.sides(rule) else {
-        return Rewritten::NoMatch;
-    };
-    let Some(found) = matches(book, variables, sides.left, &term[place..]) else {
-        return Rewritten::NoMatch;
-    };
-    match write_replaced(term, place, &found, sides.right, page) {
-        Some(n) => Rewritten::Done(n),
-        None => Rewritten::NoRoom,
-    }
+    let subject = Subject::new(book, variables, term).ok_or(RewriteFault::NoTerm)?;
+    let matched = subject.match_at(rule, place).ok_or(RewriteFault::NoMatch)?;
+    matched
+        .write_replaced(subject.term, place, page)
+        .ok_or(RewriteFault::NoRoom)
 }

@@ -1,8 +1,11 @@
 -- From the first term in some bytes: whether they are one term, and the part at a place.
-use Rattle.std.proofs.Common.{◌≡◌, ℕ, ◌+◌, ◌-◌, ◌<◌, ◌≤◌, List, [], ◌++◌, length, take, drop, Some, None, Option, sym, ap, ◌∙◌, subst, ap₂, append-nil, arith, length-append, length-drop}
-use Rattle.std.proofs.lemmas.List.{take_at, take_rest, drop_all, nil_from_length}
+use Rattle.std.proofs.Common.{◌≡◌, ℕ, ◌<◌, ◌≤◌, Bool, eqb, Decides, List, [], ◌++◌, length, take, drop, Some, None, Option, sym, ap, ◌∙◌, subst, ap₂, append-nil, arith, length-append}
+use Rattle.std.proofs.lemmas.List.{take_at, drop_all, nil_from_length}
+use Rattle.std.proofs.lemmas.Bool.{true≢false, eqb-true, eq-eqb}
+use Rattle.std.specs.Option.{option_eq}
 use Rattle.terms.specs.Term.{Kind, Term, size}
 use Rattle.terms.specs.Prefix.{Arities, prefix, WellSorted, Reads, IsTerm, Begins, FirstTerm}
+use Rattle.terms.specs.Side.{IsSide}
 use Rattle.terms.specs.Place.{Context, hole, under, head, tail, plug, part, TermAt, PartOfTerm}
 use Rattle.terms.proofs.Reading.{prefix_length, size_pos, terms_unique}
 use Rattle.terms.proofs.Places.{bytes_behind, part_at, at_place, parts_agree_with_contexts}
@@ -27,7 +30,7 @@ module _ (sig : Arities) (n : ℕ) where
 
   -- ── one term ──
 
-  pub term_from_first : (bs : List ℕ) (m : ℕ) → FirstTerm sig n bs (Some m) → m ≡ length bs → IsTerm sig n bs
+  term_from_first : (bs : List ℕ) (m : ℕ) → FirstTerm sig n bs (Some m) → m ≡ length bs → IsTerm sig n bs
   term_from_first bs m f e =
       let t = f.0 in
       let b = f.1 in
@@ -41,6 +44,12 @@ module _ (sig : Arities) (n : ℕ) where
 
   pub no_term_from_first : (bs : List ℕ) → FirstTerm sig n bs None → IsTerm sig n bs → ⊥
   no_term_from_first bs f p = f p.0 (reads_begins bs p.0 p.1)
+
+  -- the first term is all of the bytes
+  pub first_is_all : (bs : List ℕ) (o : Option ℕ) (r : Bool) → FirstTerm sig n bs o → r ≡ option_eq eqb o (Some (length bs)) → Decides r (IsTerm sig n bs)
+  first_is_all bs None r f e = ((λ t. absurd (true≢false (sym t ∙ e))), (λ p. absurd (no_term_from_first bs f p)))
+  first_is_all bs (Some m) r f e =
+      ((λ t. term_from_first bs m f (eqb-true m (length bs) (sym e ∙ t))), (λ p. e ∙ eq-eqb m (length bs) (first_from_term bs m f p)))
 
   -- ── the part at a place ──
 
@@ -68,23 +77,24 @@ module _ (sig : Arities) (n : ℕ) where
       (λ t r l. absurd (omega arith)),
     )
 
-    pub none_there : FirstTerm sig n (take (length bs - p) (drop p bs)) None → TermAt sig n bs p None × PartOfTerm sig n bs p None
-    none_there f =
-        let nothing : (s : Term) → Begins sig n (drop p bs) s → ⊥ = subst (λ w. FirstTerm sig n w None) (take_rest bs p) f in
-        (nothing, λ t r l. absurd (nothing (part t p) (part_begins bs t p r l)))
+    pub none_there : FirstTerm sig n (drop p bs) None → TermAt sig n bs p None × PartOfTerm sig n bs p None
+    none_there nothing = (nothing, λ t r l. absurd (nothing (part t p) (part_begins bs t p r l)))
 
-    pub found_there : (m : ℕ) → FirstTerm sig n (take (length bs - p) (drop p bs)) (Some m) → (found : List ℕ) → found ≡ take ((p + m) - p) (drop p bs) → TermAt sig n bs p (Some found) × PartOfTerm sig n bs p (Some found)
-    found_there m f found e =
-        let first : FirstTerm sig n (drop p bs) (Some m) = subst (λ w. FirstTerm sig n w (Some m)) (take_rest bs p) f in
+    pub found_there : (m : ℕ) → FirstTerm sig n (drop p bs) (Some m) → TermAt sig n bs p (Some (take m (drop p bs))) × PartOfTerm sig n bs p (Some (take m (drop p bs)))
+    found_there m first =
         let s = first.0 in
         let b = first.1 in
-        let long : (p + m) - p ≡ size s = omega (arith, first.2) in
-        let is : prefix s ≡ found = sym (take_at (prefix s) b.rest (size s) (prefix_length s)) ∙ ap₂ take (sym long) b.form ∙ sym e in (
+        let is : prefix s ≡ take m (drop p bs) = sym (take_at (prefix s) b.rest (size s) (prefix_length s)) ∙ ap₂ take first.2 b.form in (
           (s, b, is),
           λ t r l. ap {B = Option (List ℕ)} Some (sym is ∙ ap prefix (begins_unique (drop p bs) s (part t p) b (part_begins bs t p r l))),
         )
 
-    pub first_inside : (m : ℕ) → FirstTerm sig n (take (length bs - p) (drop p bs)) (Some m) → p < length bs → p + m ≤ length bs
-    first_inside m f h =
-        let first : FirstTerm sig n (drop p bs) (Some m) = subst (λ w. FirstTerm sig n w (Some m)) (take_rest bs p) f in
-        omega (arith, first_within (drop p bs) m first, length-drop p bs)
+-- ── sides of rules ──
+
+module _ (sig : Arities) where
+  -- a term has a byte at least
+  pub side_of : (bs : List ℕ) (t : Term) → Reads sig 4 bs t → length bs ≤ 32 → IsSide sig bs
+  side_of bs t r h = record { some = omega (arith, size_pos t, prefix_length t, ap length r.form); most = h; term = (t, r) }
+
+  pub side_is : (bs : List ℕ) (r : Bool) → length bs ≤ 32 → Decides r (IsTerm sig 4 bs) → Decides r (IsSide sig bs)
+  side_is bs r h d = ((λ t. let p = d.0 t in side_of bs p.0 p.1 h), (λ s. d.1 s.term))

@@ -2,6 +2,7 @@
 use Rattle.std.proofs.Common.{◌≡◌, ℕ, zero, suc, ◌+◌, ◌-◌, ◌<◌, ◌≤◌, ◌⊎◌, List, [], ◌∷◌, ◌++◌, length, get_or, drop, Some, None, Option, sym, refl, ap, ◌∙◌, subst, inl, inr, append_assoc, append-nil, arith, length-drop}
 use Rattle.std.proofs.lemmas.Bool.{cases_lt}
 use Rattle.std.proofs.lemmas.List.{drop_more}
+use Rattle.std.proofs.lemmas.Option.{none-some}
 use Rattle.terms.specs.Term.{var, node, nil, cons, Term, Terms, how_many, size}
 use Rattle.terms.specs.Prefix.{Arities, prefix, WellSorted, FirstTerm}
 use Rattle.terms.specs.Scan.{owes}
@@ -29,9 +30,6 @@ longer_none None = refl
 option_cases : (o : Option ℕ) → ((a : ℕ) × (o ≡ Some a)) ⊎ (o ≡ None)
 option_cases (Some a) = inl (a, refl)
 option_cases None = inr refl
-
-pub never : {n : ℕ} → ◌≡◌ {A = Option ℕ} None (Some n) → ⊥
-never e = let z : ◌≡◌ {A = ℕ} 0 1 = cc in omega arith
 
 pub some_same : {m n : ℕ} → ◌≡◌ {A = Option ℕ} (Some m) (Some n) → m ≡ n
 some_same e = cc
@@ -155,16 +153,16 @@ module _ (sig : Arities) (vars : ℕ) where
 
   scan_reads : (k : ℕ) (bs : List ℕ) (n : ℕ) → scan sig vars k bs ≡ Some n → Reading k bs n
   scan_reads zero bs n e = record { terms = nil; rest = bs; count = refl; sorted = tt; form = refl; long = cc }
-  scan_reads (suc k) [] n e = absurd (never e)
+  scan_reads (suc k) [] n e = absurd (none-some _ e)
   scan_reads (suc k) (b ∷ bs) n e =
       elim (option_cases (owes sig vars b)) [
         | inl p ↦
             let step : scan sig vars (suc k) (b ∷ bs) ≡ longer 1 (scan sig vars (k + p.0) bs) = scan_more (suc k) (k + p.0) b p.0 bs (omega arith) p.1 (omega arith) in
             elim (option_cases (scan sig vars (k + p.0) bs)) [
               | inl q ↦ subst (Reading (suc k) (b ∷ bs)) (some_same (ap (longer 1) (sym q.1) ∙ sym step ∙ e)) (reading_more k p.0 b q.0 bs p.1 (scan_reads (k + p.0) bs q.0 q.1))
-              | inr z ↦ absurd (never (sym (ap (longer 1) z) ∙ sym step ∙ e))
+              | inr z ↦ absurd (none-some _ (sym (ap (longer 1) z) ∙ sym step ∙ e))
             ]
-        | inr z ↦ absurd (never (sym (scan_stop (suc k) b bs (omega arith) z) ∙ e))
+        | inr z ↦ absurd (none-some _ (sym (scan_stop (suc k) b bs (omega arith) z) ∙ e))
       ]
 
   -- each term has a byte at least
@@ -192,7 +190,7 @@ module _ (sig : Arities) (vars : ℕ) where
   -- reading off one term finds the term that begins the bytes
   pub first_is : (bs : List ℕ) (o : Option ℕ) → scan sig vars 1 bs ≡ o → FirstTerm sig vars bs o
   first_is bs (Some n) e = let r = scan_reads 1 bs n e in begins_one bs n r r.terms refl
-  first_is bs None e = λ t b. never (sym e ∙ ap (scan sig vars 1) (sym b.form) ∙ scan_term t b.sorted b.rest)
+  first_is bs None e = λ t b. none-some _ (sym e ∙ ap (scan sig vars 1) (sym b.form) ∙ scan_term t b.sorted b.rest)
 
   -- The step of a loop that has come to the place i and owes k terms: `o` is the length of all, `longer i` of the length of what is left.
   module _ (o : Option ℕ) (bs : List ℕ) (i k : ℕ) (inv : o ≡ longer i (scan sig vars k (drop i bs))) where

@@ -2,4 +2,5 @@
 #![tactic(auto)]
 
 pub mod prefix;
+pub mod side;
 pub mod theorems;

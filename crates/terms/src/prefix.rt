@@ -34,33 +34,26 @@ fn owed_after<S: Signature>(signature: &S, variables: u8, byte: u8) -> Option<u8
 pub fn first_term_length<S: Signature>(signature: &S, variables: u8, bytes: &[u8]) -> Option<usize>
     ensures { FirstTerm (S.Signature.arities signature.now) variables bytes.now result }
 {
-    if bytes.is_empty() {
-        return None;
-    }
     let mut owed: usize = 1;
-    let mut i: usize = 0;
-    while owed > 0 {
-        let Some(more) = owed_after(signature, variables, bytes[i]) else {
-            return None;
-        };
+    for (i, byte) in bytes.iter().enumerate() {
+        let more = owed_after(signature, variables, *byte)? as usize;
         // each term has a byte at least
-        if more as usize > bytes.len() - i - owed {
+        if more > bytes.len() - i - owed {
             return None;
         }
-        owed = owed - 1 + more as usize;
-        i += 1;
+        owed = owed - 1 + more;
+        if owed == 0 {
+            return Some(i + 1);
+        }
     }
-    Some(i)
+    None
 }
 
 // Whether the bytes are exactly one term of the signature with the first `variables` variables.
 pub fn is_term<S: Signature>(signature: &S, variables: u8, bytes: &[u8]) -> bool
     ensures { Decides result (IsTerm (S.Signature.arities signature.now) variables bytes.now) }
 {
-    match first_term_length(signature, variables, bytes) {
-        Some(n) => n == bytes.len(),
-        None => false,
-    }
+    first_term_length(signature, variables, bytes) == Some(bytes.len())
 }
 
 // The part at a place: the bytes of the term that begins there, or None if none does.
@@ -73,12 +66,7 @@ pub fn part_at<'a, S: Signature>(
     ensures any { TermAt (S.Signature.arities signature.now) variables bytes.now place (option_map (λ x. x.now) result) }
     ensures part { PartOfTerm (S.Signature.arities signature.now) variables bytes.now place (option_map (λ x. x.now) result) }
 {
-    if place >= bytes.len() {
-        return None;
-    }
-    let Some(n) = first_term_length(signature, variables, &bytes[place..]) else {
-        return None;
-    };
-    let end = place + n;
-    Some(&bytes[place..end])
+    let rest = bytes.get(place..)?;
+    let n = first_term_length(signature, variables, rest)?;
+    Some(&rest[..n])
 }

@@ -1,5 +1,5 @@
 -- The sides of two rules, laid one after the other, are terms with eight variables.
-use Rattle.std.proofs.Common.{◌≡◌, ℕ, ◌+◌, ◌-◌, ◌<◌, ◌≤◌, List, [], ◌∷◌, ◌++◌, length, get_or, take, sym, refl, ap, ◌∙◌, subst, ap₂, append_assoc, append-nil, arith, length-append}
+use Rattle.std.proofs.Common.{◌≡◌, ℕ, ◌+◌, ◌-◌, ◌<◌, ◌≤◌, List, [], ◌∷◌, ◌++◌, length, get_or, sym, refl, ap, ◌∙◌, subst, ap₂, append_assoc, append-nil, arith, length-append}
 use native.Mathlib.Decide.{dec_lt}
 use Rattle.std.proofs.lemmas.List.{take_rest, get_or_append_left, get_or-append_right}
 use Rattle.terms.specs.Term.{Kind, Tree, var, node, nil, cons, Term, sub}
@@ -8,11 +8,10 @@ use Rattle.terms.proofs.Reading.{prefix_length, prefix_sub, bytes_read_as_their_
 use Rattle.rewriting.specs.Unify.{distinct}
 use Rattle.rewriting.proofs.Substitution.{sub_cong, sub_var}
 use Rattle.rewriting.proofs.Sorted.{sorted_sub}
-use Rattle.unification.specs.Writing.{written, Wrote}
+use Rattle.unification.specs.Writing.{written}
 use Rattle.unification.specs.Laying.{moved, Sides}
 use Rattle.unification.specs.Asked.{rule_of}
 use Rattle.unification.proofs.Triangular.{sorted_between}
-use Rattle.unification.proofs.Writes.{wrote_more}
 
 -- the codes of a term with n variables are below 128 + n
 low_append : (m : ℕ) (xs ys : List ℕ) → ((k : ℕ) → k < length xs → get_or xs k 0 < m) → ((k : ℕ) → k < length ys → get_or ys k 0 < m) → (k : ℕ) → k < length (xs ++ ys) → get_or (xs ++ ys) k 0 < m
@@ -54,14 +53,14 @@ more_sorted sig t w = subst (WellSorted sig 8) (moved_none t) (moved_sorted sig 
 -- ── the four sides ──
 
 module _ (sig : Arities) (l l' r r' c₀ c₁ c₂ c₃ c₄ : List ℕ) (a : Reads sig 4 l (term_of sig l)) (b : Reads sig 4 l' (term_of sig l')) (c : Reads sig 4 r (term_of sig r)) (d : Reads sig 4 r' (term_of sig r')) where
-  pub laid_sides : Wrote c₀ c₁ 0 (0 + length l) (written (moved 0) l 0 (length l)) → Wrote c₁ c₂ (length l) (length l + length l') (written (moved 4) l' 0 (length l')) → Wrote c₂ c₃ (length l + length l') ((length l + length l') + length r) (written (moved 0) r 0 (length r)) → Wrote c₃ c₄ ((length l + length l') + length r) (((length l + length l') + length r) + length r') (written (moved 4) r' 0 (length r')) → Sides sig (take (((length l + length l') + length r) + length r') c₄) (length l) (length l + length l') ((length l + length l') + length r) (rule_of sig l r) (rule_of sig l' r')
-  laid_sides w₁ w₂ w₃ w₄ =
+  pub laid_sides : c₀ ≡ [] → c₁ ≡ c₀ ++ written (moved 0) l 0 (length l) → c₂ ≡ c₁ ++ written (moved 4) l' 0 (length l') → c₃ ≡ c₂ ++ written (moved 0) r 0 (length r) → c₄ ≡ c₃ ++ written (moved 4) r' 0 (length r') → length c₂ ≡ length c₁ + length l' → Sides sig c₄ (length l) (length l + length l') ((length l + length l') + length r) (rule_of sig l r) (rule_of sig l' r')
+  laid_sides none w₁ w₂ w₃ w₄ long =
       record {
         sorted = (more_sorted sig t a.sorted, (moved_sorted sig 4 t' (omega arith) b.sorted, (more_sorted sig u c.sorted, (moved_sorted sig 4 u' (omega arith) d.sorted, tt))));
-        form = whole.front ∙ simp append_assoc (ap₂ (λ x y. x ++ y) left_is (ap₂ (λ x y. x ++ y) second_is (ap₂ (λ x y. x ++ y) right_is (last_is ∙ sym (append-nil (prefix (distinct u')))))));
-        left_long = omega (arith, w₁.counts, ap length left_is, prefix_length t);
-        second_long = omega (arith, w₂.counts, ap length second_is, prefix_length (distinct t'));
-        right_long = omega (arith, w₃.counts, ap length right_is, prefix_length u);
+        form = whole ∙ simp append_assoc (ap₂ (λ x y. x ++ y) left_is (ap₂ (λ x y. x ++ y) second_is (ap₂ (λ x y. x ++ y) right_is (last_is ∙ sym (append-nil (prefix (distinct u')))))));
+        left_long = sym (ap length a.form) ∙ prefix_length t;
+        second_long = omega (arith, long, ap length w₂, length-append c₁ (written (moved 4) l' 0 (length l')), ap length second_is, prefix_length (distinct t'));
+        right_long = omega (arith, ap length c.form, prefix_length u);
       }
     where
       t : Term
@@ -88,8 +87,10 @@ module _ (sig : Arities) (l l' r r' c₀ c₁ c₂ c₃ c₄ : List ℕ) (a : Re
       last_is : written (moved 4) r' 0 (length r') ≡ prefix (distinct (term_of sig r'))
       last_is = moved_bytes sig 4 r' (term_of sig r') d
 
-      first : Wrote c₀ c₁ 0 (length l) (written (moved 0) l 0 (length l))
-      first = subst (λ n. Wrote c₀ c₁ 0 n (written (moved 0) l 0 (length l))) (omega arith) w₁
-
-      whole : Wrote c₀ c₄ 0 (((length l + length l') + length r) + length r') (((written (moved 0) l 0 (length l) ++ written (moved 4) l' 0 (length l')) ++ written (moved 0) r 0 (length r)) ++ written (moved 4) r' 0 (length r'))
-      whole = wrote_more c₀ c₃ c₄ 0 _ _ _ _ _ refl (wrote_more c₀ c₂ c₃ 0 _ _ _ _ _ refl (wrote_more c₀ c₁ c₂ 0 _ _ _ _ _ refl first w₂) w₃) w₄
+      whole : c₄ ≡ ((written (moved 0) l 0 (length l) ++ written (moved 4) l' 0 (length l')) ++ written (moved 0) r 0 (length r)) ++ written (moved 4) r' 0 (length r')
+      whole =
+          w₄
+          ∙ ap (λ z. z ++ written (moved 4) r' 0 (length r')) (w₃
+          ∙ ap (λ z. z ++ written (moved 0) r 0 (length r)) (w₂
+          ∙ ap (λ z. z ++ written (moved 4) l' 0 (length l')) (w₁
+          ∙ ap (λ z. z ++ written (moved 0) l 0 (length l)) none)))

@@ -1,3 +1,5 @@
+pub mod Few
+pub mod Matching
 pub mod StandingFacts
 pub mod Triangular
 pub mod Walking

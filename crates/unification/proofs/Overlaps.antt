@@ -1,5 +1,5 @@
 -- The sides of two rules in the codes, their instances, and the critical pair.
-use Rattle.std.proofs.Common.{◌≡◌, ℕ, suc, ◌+◌, ◌-◌, ◌<◌, ◌≤◌, Bool, true, false, cond, eqb, ◌⊎◌, List, [], ◌∷◌, ◌++◌, length, get_or, take, drop, sym, refl, ap, ◌∙◌, subst, ap₂, inl, inr, append_assoc, append-nil, arith, length-append}
+use Rattle.std.proofs.Common.{◌≡◌, ℕ, suc, ◌+◌, ◌-◌, ◌<◌, ◌≤◌, Bool, true, false, cond, eqb, ◌⊎◌, Option, Some, None, MatchOption, ok_or, Result, Ok, Err, List, [], ◌∷◌, ◌++◌, length, get_or, take, drop, sym, refl, ap, ◌∙◌, subst, ap₂, inl, inr, append_assoc, append-nil, arith, length-append}
 use borrow.Author.Tests.{both_ways}
 use Rattle.std.proofs.lemmas.List.{take_at, drop_at, drop_all}
 use Rattle.terms.specs.Term.{Kind, one, Tree, var, node, nil, cons, Term, Rule, Subst, sub, Occurs, size}
@@ -19,10 +19,11 @@ use Rattle.unification.specs.Writing.{written, spliced}
 use Rattle.unification.specs.Laying.{sides_of, Sides}
 use Rattle.unification.specs.Numbering.{seen_among, numbered}
 use Rattle.unification.specs.Written.{bytes_of}
-use Rattle.unification.specs.declared.critical.Critical.{Critical}
-use Rattle.unification.specs.declared.critical.Critical.TheVariants.{Malformed, Apart, TooLong, Pair}
+use Rattle.unification.specs.declared.critical.NoPair.{NoPair}
+use Rattle.unification.specs.declared.critical.NoPair.TheVariants.{Malformed, Apart, TooLong}
 use Rattle.unification.specs.Asked.{Asked, rule_of}
 use Rattle.unification.specs.Critical.{NoNewVariable, IsCriticalPair, IsTooLong, IsWritten, OfRules, Answer}
+use Rattle.unification.proofs.Few.{few_codes}
 use Rattle.unification.proofs.StandingFacts.{stands_hole, stands_head, stands_tail}
 use Rattle.unification.proofs.Triangular.{sorted_between}
 use Rattle.unification.proofs.Writes.{written_term}
@@ -314,8 +315,8 @@ module _ (sig : Arities) (g : List ℕ) (x y z : ℕ) (a b : Rule) (s : Sides si
         long_inner a b p unified.μ sides_mgu
         (omega (arith, ap length (inner_written unified.μ p (get_or end p 0) h (part_end p end ends h).0), prefix_length (sub unified.μ (replace a.left p (distinct b.right)))))
 
-    pub pair_written : (end vs ps os is : List ℕ) (pair : CriticalPair) → length vs ≤ 8 → Ends sig g end → ps ≡ written unified.μ g 0 x → os ≡ written unified.μ g y z → is ≡ spliced unified.μ g p z (get_or end p 0) x → vs ≡ seen_among [] ps → bytes_of pair.peak ≡ expand (image (numbered vs)) ps → bytes_of pair.outer ≡ expand (image (numbered vs)) os → bytes_of pair.inner ≡ expand (image (numbered vs)) is → length (bytes_of pair.peak) ≤ 255 → length (bytes_of pair.outer) ≤ 255 → length (bytes_of pair.inner) ≤ 255 → IsWritten sig a b p pair
-    pair_written end vs ps os is pair few ends e₁ e₂ e₃ v b₁ b₂ b₃ s₁ s₂ s₃ =
+    pub pair_written : (end vs ps os is : List ℕ) (pair : CriticalPair) → length vs ≤ 8 → Ends sig g end → ps ≡ written unified.μ g 0 x → os ≡ written unified.μ g y z → is ≡ spliced unified.μ g p z (get_or end p 0) x → vs ≡ seen_among [] ps → bytes_of pair.peak ≡ expand (image (numbered vs)) ps → bytes_of pair.outer ≡ expand (image (numbered vs)) os → bytes_of pair.inner ≡ expand (image (numbered vs)) is → IsWritten sig a b p pair
+    pair_written end vs ps os is pair few ends e₁ e₂ e₃ v b₁ b₂ b₃ =
         let μ = unified.μ in
         let peak = sub μ a.left in
         let outer = sub μ a.right in
@@ -336,15 +337,27 @@ module _ (sig : Arities) (g : List ℕ) (x y z : ℕ) (a b : Rule) (s : Sides si
           peak_bytes = t₁;
           outer_bytes = t₂;
           inner_bytes = t₃;
-          short = (short_term _ (sub (renumbering peak) peak) t₁ s₁, short_term _ (sub (renumbering peak) outer) t₂ s₂, short_term _ (sub (renumbering peak) inner) t₃ s₃);
+          short = (short_term _ (sub (renumbering peak) peak) t₁ (few_codes pair.peak), short_term _ (sub (renumbering peak) outer) t₂ (few_codes pair.outer), short_term _ (sub (renumbering peak) inner) t₃ (few_codes pair.inner));
           peak_sorted = numbered_sorted sig (seen [] peak) peak eight w (λ z o. seen_has z [] peak o);
           outer_sorted = λ known. numbered_sorted sig (seen [] peak) outer eight w' (λ z o. seen_has z [] peak (occurs_among μ a.left a.right known z o));
           inner_sorted = λ known. numbered_sorted sig (seen [] peak) inner eight w'' (λ z o. seen_has z [] peak (inner_known known z o));
         }
 
 -- the answer for rules and a place of a symbol is the answer for their bytes
-pub answered : (sig : Arities) (l r : List ℕ) (p : ℕ) (l' r' : List ℕ) (answer : Critical) → Asked sig l r p l' r' → OfRules sig (rule_of sig l r) (rule_of sig l' r') p answer → Answer sig l r p l' r' answer
-answered sig l r p l' r' Malformed a o = absurd o
-answered sig l r p l' r' Apart a o = (a, o)
-answered sig l r p l' r' TooLong a o = (a, o)
-answered sig l r p l' r' (Pair pair) a o = (a, o)
+pub answered : (sig : Arities) (l r : List ℕ) (p : ℕ) (l' r' : List ℕ) (answer : Result CriticalPair NoPair) → Asked sig l r p l' r' → OfRules sig (rule_of sig l r) (rule_of sig l' r') p answer → Answer sig l r p l' r' answer
+answered sig l r p l' r' (Err Malformed) a o = absurd o
+answered sig l r p l' r' (Err Apart) a o = (a, o)
+answered sig l r p l' r' (Err TooLong) a o = (a, o)
+answered sig l r p l' r' (Ok pair) a o = (a, o)
+
+-- a critical pair, or none since a term of it is too long, is an answer for the rules
+pub of_pair : (sig : Arities) (a b : Rule) (p : ℕ) (pair : Option CriticalPair) → MatchOption pair (IsTooLong a b p) (IsWritten sig a b p) → OfRules sig a b p (ok_or pair TooLong)
+of_pair sig a b p (Some pair) w = w
+of_pair sig a b p None w = w
+
+-- the sides by another name of the codes
+pub sides_there : (sig : Arities) (g h : List ℕ) (x y z : ℕ) (a b : Rule) → h ≡ g → Sides sig g x y z a b → Sides sig h x y z a b
+sides_there sig g h x y z a b e s = subst (λ w. Sides sig w x y z a b) (sym e) s
+
+pub sides_as : (sig : Arities) (g h : List ℕ) (x y z : ℕ) → h ≡ g → (a : Rule) × (b : Rule) × Sides sig g x y z a b → (a : Rule) × (b : Rule) × Sides sig h x y z a b
+sides_as sig g h x y z e s = (s.0, s.1, sides_there sig g h x y z s.0 s.1 e s.2)

@@ -1,5 +1,5 @@
 -- The order of the symbols: each turn ranks one, and if some symbol stays without a rank, then there is no solution.
-use Rattle.std.proofs.Common.{◌≡◌, ℕ, zero, suc, ◌+◌, ◌<◌, ◌≤◌, Bool, true, false, cond, eqb, List, length, get_or, set, replicate, sym, refl, ap, ◌∙◌, subst, arith, get_or-set_other, get_or-set_same, eq-eqb, ne_eqb}
+use Rattle.std.proofs.Common.{◌≡◌, ℕ, zero, suc, ◌+◌, ◌<◌, ◌≤◌, cond, eqb, List, length, get_or, set, replicate, sym, refl, ap, ◌∙◌, subst, arith, get_or-set_other, get_or-set_same, eq-eqb, ne_eqb}
 use native.Mathlib.Decide.{ℕ_discrete}
 use Rattle.terms.specs.Term.{node, Term, Terms, Subst, sub, Occurs, size}
 use Rattle.terms.specs.Prefix.{Arities}
@@ -7,15 +7,7 @@ use Rattle.rewriting.proofs.Unification.{size_occurs}
 use Rattle.unification.specs.Standing.{Stands, IsForest, Ends}
 use Rattle.unification.specs.Classes.{Classes, Equates, NoSolution, Ready, Waits, Unranked, Ordered, AllRanked, Stuck, Bindings}
 use Rattle.unification.proofs.StandingFacts.{stands_at, is_var, is_node, occurs_at}
-use Rattle.unification.proofs.Counting.{total, total_lt, total_most}
-
--- the end of a term is inside
-pub end_inside : (sig : Arities) (g end : List ℕ) (i : ℕ) → IsForest sig g → Ends sig g end → i < length g → get_or end i 0 ≤ length g
-end_inside sig g end i forest ends h =
-    let t = stands_at sig g i forest h in
-    let e = ends i t.0 t.1 in
-    let b = t.1.inside in
-    omega arith
+use Rattle.unification.proofs.Counting.{total, total_lt, total_most, at_most_one}
 
 -- 1 for an offset that has no rank
 abbrev pub lacks : List ℕ → ℕ → ℕ
@@ -27,10 +19,6 @@ pub record Ranks (sig : Arities) (g rep rank : List ℕ) (next : ℕ) : Type 0 w
   pub ordered : Ordered sig g rep rank
   pub below : (i : ℕ) → get_or rank i 0 < next
   pub few : total (lacks rank) (length g) + next ≤ length g + 1
-
-at_most_one : (b : Bool) → cond b 1 0 ≤ 1
-at_most_one true = omega arith
-at_most_one false = omega arith
 
 no_rank : (n i : ℕ) → ◌≡◌ {A = ℕ} (get_or (replicate n 0) i 0) 0
 no_rank zero i = refl

@@ -1,12 +1,14 @@
 -- Variables by first appearance: how many there are, and the number of each.
-use Rattle.std.proofs.Common.{◌≡◌, ℕ, zero, suc, ◌+◌, ◌-◌, ◌<◌, ◌≤◌, Bool, true, false, cond, eqb, ltb, List, [], ◌∷◌, ◌++◌, length, get_or, take, drop, set, sym, refl, ap, ◌∙◌, subst, ap₂, append_assoc, append-nil, arith, length-append, le-ltb, lt-ltb, eq-eqb, ne_eqb}
-use Rattle.std.proofs.lemmas.List.{length-take-le, drop_more, take_more, take_more_set}
+use Rattle.std.specs.List.{list_any}
+use Rattle.std.proofs.Common.{◌≡◌, ◌||◌, ℕ, zero, suc, ◌+◌, ◌-◌, ◌<◌, ◌≤◌, Bool, true, false, cond, eqb, ltb, List, [], ◌∷◌, ◌++◌, length, get_or, take, drop, sym, refl, ap, ◌∙◌, subst, ap₂, append_assoc, append-nil, arith, length-append, le-ltb, lt-ltb, eq-eqb, ne_eqb}
+use native.Mathlib.Decide.{ℕ_discrete}
+use Rattle.std.proofs.lemmas.List.{drop_all, drop_more, take_more}
 use Rattle.terms.specs.Term.{Kind, Tree, var, node, nil, cons}
 use Rattle.terms.specs.Prefix.{Arities, WellSorted, prefix, expand}
 use Rattle.terms.proofs.Reading.{expand_append}
 use Rattle.rewriting.specs.Unify.{is_in, seen, index}
 use Rattle.unification.specs.Numbering.{seen_among}
-use Rattle.unification.proofs.Counting.{total, total_lt, total_most}
+use Rattle.unification.proofs.Counting.{total, total_lt, total_most, at_most_one}
 
 -- ── the place of a variable in a list ──
 
@@ -31,6 +33,22 @@ is_in_no x [] none = refl
 is_in_no x (y ∷ ys) none =
     ap (λ b. cond b true (is_in x ys)) (ne_eqb x y (λ e. none 0 (omega arith) (sym e))) ∙ is_in_no x ys (λ k l. none (suc k) (omega arith))
 
+-- a list has x exactly if the library finds it there
+contains_is : (x : ℕ) (xs : List ℕ) → list_any (λ y. eqb y x) xs ≡ is_in x xs
+contains_is x [] = refl
+contains_is x (y ∷ ys) = go (ℕ_discrete x y) (contains_is x ys)
+  where
+    go : Dec (x ≡ y) → list_any (λ z. eqb z x) ys ≡ is_in x ys → (eqb y x || list_any (λ z. eqb z x) ys) ≡ cond (eqb x y) true (is_in x ys)
+    go (yes e) rest = ap (λ b. b || list_any (λ z. eqb z x) ys) (eq-eqb y x (sym e)) ∙ sym (ap (λ b. cond b true (is_in x ys)) (eq-eqb x y e))
+    go (no n) rest =
+        ap (λ b. b || list_any (λ z. eqb z x) ys) (ne_eqb y x (λ e. n (sym e)))
+        ∙ rest
+        ∙ sym (ap (λ b. cond b true (is_in x ys)) (ne_eqb x y n))
+
+-- whether x is found there is whether it is in the list
+pub seen_by : (x : ℕ) (xs ys : List ℕ) (found answer : Bool) → ys ≡ xs → found ≡ list_any (λ y. eqb y x) ys → found ≡ answer → is_in x xs ≡ answer
+seen_by x xs ys found answer e f r = sym (contains_is x xs) ∙ ap (list_any (λ y. eqb y x)) (sym e) ∙ sym f ∙ r
+
 -- ── there are at most eight ──
 
 -- 1 if the variable 128 + i is in the list
@@ -40,10 +58,6 @@ held xs i = cond (is_in (128 + i) xs) 1 0
 -- no more elements than there are variables among them: each stands once
 abbrev pub Once : List ℕ → Type 0
 Once xs = length xs ≤ total (held xs) 8
-
-at_most_one : (b : Bool) → cond b 1 0 ≤ 1
-at_most_one true = omega arith
-at_most_one false = omega arith
 
 is_in_more : (x y : ℕ) (xs : List ℕ) → cond (is_in x xs) 1 0 ≤ cond (is_in x (xs ++ y ∷ [])) 1 0
 is_in_more x y [] = omega arith
@@ -102,43 +116,45 @@ module _ (before codes : List ℕ) (i : ℕ) (h : i < length codes) where
   pub seen_new : 128 ≤ get_or codes i 0 → is_in (get_or codes i 0) before ≡ false → seen_among before (drop i codes) ≡ seen_among (before ++ get_or codes i 0 ∷ []) (drop (i + 1) codes)
   seen_new l e = seen_variable l false e
 
--- The search for x among the n variables seen so far has come to r.
-module _ (variables : List ℕ) (x n r : ℕ) (long : n ≤ length variables) where
-  pub seen_before : r ≤ length (take n variables) → (r < length (take n variables) → get_or (take n variables) r 0 ≡ x) → ¬ (r ≡ n) → is_in x (take n variables) ≡ true
-  seen_before h at ne = let l = length-take-le n variables long in is_in_yes x (take n variables) r (omega arith) (at (omega arith))
+-- The search for x among the variables has come to r.
+module _ (variables : List ℕ) (x r : ℕ) where
+  pub seen_before : r ≤ length variables → (r < length variables → get_or variables r 0 ≡ x) → ¬ (r ≡ length variables) → is_in x variables ≡ true
+  seen_before h at ne = is_in_yes x variables r (omega arith) (at (omega arith))
 
-  pub not_seen : ((k : ℕ) → k < r → get_or (take n variables) k 0 ≡ x → ⊥) → r ≡ n → is_in x (take n variables) ≡ false
-  not_seen before e = let l = length-take-le n variables long in is_in_no x (take n variables) (λ k h. before k (omega arith))
+  pub not_seen : ((k : ℕ) → k < r → get_or variables k 0 ≡ x → ⊥) → r ≡ length variables → is_in x variables ≡ false
+  not_seen before e = is_in_no x variables (λ k h. before k (omega arith))
 
-  pub seen_room : ((k : ℕ) → k < r → get_or (take n variables) k 0 ≡ x → ⊥) → r ≡ n → 128 ≤ x → x < 136 → Once (take n variables) → n < 8
-  seen_room before e l m o =
-      let few = once_few (take n variables ++ x ∷ []) (once_more x (take n variables) l m (not_seen before e) o) in
-      omega (arith, length-take-le n variables long, length-append (take n variables) (x ∷ []))
+-- there is room for one that is new
+pub seen_room : (variables : List ℕ) (x : ℕ) → 128 ≤ x → x < 136 → is_in x variables ≡ false → Once variables → length variables < 8
+seen_room variables x l m e o =
+    let few = once_few (variables ++ x ∷ []) (once_more x variables l m e o) in
+    omega (arith, length-append variables (x ∷ []))
 
--- the first n variables are those among the codes before i
-pub record SeenUpTo (codes variables : List ℕ) (n i : ℕ) : Type 0 where
-  pub few : n ≤ 8
-  pub once : Once (take n variables)
-  pub same : seen_among (take n variables) (drop i codes) ≡ seen_among [] codes
+-- the variables are those among the codes before i
+pub record SeenUpTo (codes variables : List ℕ) (i : ℕ) : Type 0 where
+  pub once : Once variables
+  pub same : seen_among variables (drop i codes) ≡ seen_among [] codes
 
-pub seen_none : (codes variables : List ℕ) → SeenUpTo codes variables 0 0
-seen_none codes variables = record { few = omega arith; once = once_none; same = refl }
+pub seen_none : (codes variables : List ℕ) → variables ≡ [] → SeenUpTo codes variables 0
+seen_none codes variables e = subst (λ z. SeenUpTo codes z 0) (sym e) (record { once = once_none; same = refl })
 
-pub seen_as : (codes old new : List ℕ) (m n i : ℕ) → new ≡ old → n ≡ m → SeenUpTo codes old m i → SeenUpTo codes new n i
-seen_as codes old new m n i p q s = subst (λ z. SeenUpTo codes z n i) (sym p) (subst (λ z. SeenUpTo codes old z i) (sym q) s)
+pub seen_as : (codes old new : List ℕ) (i : ℕ) → new ≡ old → SeenUpTo codes old i → SeenUpTo codes new i
+seen_as codes old new i p s = subst (λ z. SeenUpTo codes z i) (sym p) s
 
-module _ (codes variables : List ℕ) (n i : ℕ) (h : i < length codes) (s : SeenUpTo codes variables n i) where
-  pub turn_stays : seen_among (take n variables) (drop i codes) ≡ seen_among (take n variables) (drop (i + 1) codes) → SeenUpTo codes variables n (i + 1)
-  turn_stays e = record { few = s.few; once = s.once; same = sym e ∙ s.same }
+pub seen_all : (codes variables : List ℕ) (i : ℕ) → length codes ≤ i → SeenUpTo codes variables i → variables ≡ seen_among [] codes
+seen_all codes variables i h s = sym (ap (seen_among variables) (drop_all i codes h)) ∙ s.same
 
-  pub turn_new : n < 8 → length variables ≡ 8 → 128 ≤ get_or codes i 0 → get_or codes i 0 < 136 → is_in (get_or codes i 0) (take n variables) ≡ false → SeenUpTo codes (set variables n (get_or codes i 0)) (n + 1) (i + 1)
-  turn_new a b l m e =
-      let new : take (n + 1) (set variables n (get_or codes i 0)) ≡ take n variables ++ get_or codes i 0 ∷ [] = take_more_set variables n (get_or codes i 0) (omega arith) in
-      record {
-        few = omega arith;
-        once = subst Once (sym new) (once_more (get_or codes i 0) (take n variables) l m e s.once);
-        same = ap (λ z. seen_among z (drop (i + 1) codes)) new ∙ sym (seen_new (take n variables) codes i h l e) ∙ s.same;
-      }
+module _ (codes variables : List ℕ) (i : ℕ) (h : i < length codes) (s : SeenUpTo codes variables i) where
+  pub turn_stays : seen_among variables (drop i codes) ≡ seen_among variables (drop (i + 1) codes) → SeenUpTo codes variables (i + 1)
+  turn_stays e = record { once = s.once; same = sym e ∙ s.same }
+
+  pub turn_new : (new : List ℕ) → new ≡ variables ++ get_or codes i 0 ∷ [] → 128 ≤ get_or codes i 0 → get_or codes i 0 < 136 → is_in (get_or codes i 0) variables ≡ false → SeenUpTo codes new (i + 1)
+  turn_new new is l m e =
+      subst (λ z. SeenUpTo codes z (i + 1)) (sym is)
+      (record {
+        once = once_more (get_or codes i 0) variables l m e s.once;
+        same = sym (seen_new variables codes i h l e) ∙ s.same;
+      })
 
 -- the variables of a term are those among its codes
 pub seen_prefix : {k : Kind} (sig : Arities) (n : ℕ) (t : Tree k) (before bs : List ℕ) → WellSorted sig n t → seen_among before (prefix t ++ bs) ≡ seen_among (seen before t) bs
@@ -154,8 +170,8 @@ seen_prefix sig n (cons t ts) before bs w =
 
 -- ── renumbering ──
 
-pub expand_more : (h : ℕ → List ℕ) (old new : List ℕ) (i y : ℕ) → i < length old → i < length new → take i new ≡ expand h (take i old) → h (get_or old i 0) ≡ y ∷ [] → take (i + 1) (set new i y) ≡ expand h (take (i + 1) old)
-expand_more h old new i y a b e f =
-    take_more_set new i y b
+pub expand_more : (h : ℕ → List ℕ) (old mid new : List ℕ) (i y : ℕ) → i < length old → mid ≡ expand h (take i old) → h (get_or old i 0) ≡ y ∷ [] → new ≡ mid ++ y ∷ [] → new ≡ expand h (take (i + 1) old)
+expand_more h old mid new i y a e f n =
+    n
     ∙ ap₂ (λ p q. p ++ q) e (sym f ∙ sym (append-nil (h (get_or old i 0))))
     ∙ sym (ap (expand h) (take_more old i 0 a) ∙ expand_append h (take i old) (get_or old i 0 ∷ []))

@@ -7,7 +7,7 @@ use Rattle.terms.specs.Place.{Context, plug, place, PartAt}
 use Rattle.terms.proofs.Places.{part_at, prefix_plug, before_length, bytes_before, bytes_behind}
 use Rattle.terms.proofs.Reading.{size_pos, prefix_length, reading_unique}
 use Rattle.terms.proofs.Parts.{sorted_part}
-use Rattle.unification.specs.Standing.{Stands, IsForest}
+use Rattle.unification.specs.Standing.{Stands, IsForest, Ends}
 
 pub stands_below : (sig : Arities) (g : List ℕ) (i : ℕ) (t : Term) → Stands sig g i t → i < length g
 stands_below sig g i t h = let a = size_pos t in let b = h.inside in omega arith
@@ -54,6 +54,14 @@ stands_at sig g i f h =
   where
     go : PartAt f.0 i → (t : Term) × Stands sig g i t
     go p = (p.term, subst (λ n. Stands sig g n p.term) p.at (stands_hole sig g p.context p.term (subst (WellSorted sig 8) p.splits f.1) (f.2 ∙ ap prefix p.splits)))
+
+-- the term at an offset ends behind it, and not behind the codes
+pub end_range : (sig : Arities) (g end : List ℕ) (r : ℕ) → IsForest sig g → Ends sig g end → r < length g → (r ≤ get_or end r 0) × (get_or end r 0 ≤ length g)
+end_range sig g end r forest ends h =
+    let t = stands_at sig g r forest h in
+    let stop = ends r t.0 t.1 in
+    let inside = t.1.inside in
+    (omega arith, omega arith)
 
 -- the first of a list of terms, and the others
 pub stands_head : (sig : Arities) (g : List ℕ) (a : ℕ) (t : Term) (ts : Terms) → Stands sig g a (cons t ts) → Stands sig g a t

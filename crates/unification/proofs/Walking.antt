@@ -7,9 +7,6 @@ use Rattle.unification.specs.Standing.{count, arguments_of, Stands, IsForest, En
 use Rattle.unification.specs.Classes.{SameClasses, ClosedAt, Split}
 use Rattle.unification.proofs.StandingFacts.{stands_below, stands_one, stands_at, stands_head, stands_tail, stands_arguments, code_var, code_node}
 
-clash : ◌≡◌ {A = ℕ} 0 1 → ⊥
-clash z = omega arith
-
 -- from the offset e on, `need` terms are left, which end at `stop`
 pub record Left (sig : Arities) (g : List ℕ) (e need stop : ℕ) : Type 0 where
   pub forest : Terms
@@ -122,7 +119,7 @@ beside_start sig g rep i r (var x) (var y) e h k =
       right_stands = nothing sig g (r + 1) (let b = k.inside in omega arith);
       left_count = sym (arguments_var sig g i x h);
       right_count = sym (arguments_var sig g i x h);
-      closes = λ c e f ss ts p q. absurd (clash (cc));
+      closes = λ c e f ss ts p q. (cc);
       forced = λ σ p. refl;
     }
 beside_start sig g rep i r (var x) (node f ts) e h k =

@@ -1,12 +1,12 @@
--- Writing code by code: one code more, a symbol, a variable that is bound to a term, and the end of the room.
-use Rattle.std.proofs.Common.{◌≡◌, ℕ, ◌+◌, ◌-◌, ◌<◌, ◌≤◌, cond, ◌⊎◌, List, [], ◌∷◌, ◌++◌, length, get_or, take, drop, set, sym, refl, ap, ◌∙◌, subst, ap₂, inl, inr, append_assoc, append-nil, add-one, arith, length-append, length-drop, get_or-drop, take-suc-set, take_at, take-add, le-ltb, lt-ltb}
+-- Codes appended one by one: a symbol, a variable that is bound to a term, and the end of the room.
+use Rattle.std.proofs.Common.{◌≡◌, ℕ, ◌+◌, ◌-◌, ◌<◌, ◌≤◌, cond, ◌⊎◌, List, [], ◌∷◌, ◌++◌, length, get_or, take, drop, sym, ap, ◌∙◌, ap₂, inl, inr, append_assoc, append-nil, arith, length-append, length-drop, get_or-drop, take_at, take-add, le-ltb, lt-ltb}
 use Rattle.std.proofs.lemmas.List.{take_more}
 use Rattle.terms.specs.Term.{Term, Subst, sub, size}
 use Rattle.terms.specs.Prefix.{Arities, prefix, expand, image}
 use Rattle.terms.proofs.Reading.{prefix_length, prefix_sub, expand_append}
 use Rattle.unification.specs.Standing.{Stands, IsForest, Ends}
 use Rattle.unification.specs.Classes.{Classes, Solves, Bindings}
-use Rattle.unification.specs.Writing.{written, spliced, Wrote, Below}
+use Rattle.unification.specs.Writing.{written, spliced, Below}
 use Rattle.unification.proofs.StandingFacts.{stands_at}
 use Rattle.unification.proofs.Closure.{kind_of}
 
@@ -81,26 +81,6 @@ image_bound sig g end rep μ j forest ends c sol h v = go (stands_at sig g (get_
         ∙ sym (written_term sig g μ r t x.1)
         ∙ ap (written μ g r) (sym (ends r t x.1))
 
--- ── where it is written ──
-
-pub wrote_more : (old mid new : List ℕ) (at n m : ℕ) (xs ys zs : List ℕ) → zs ≡ xs ++ ys → Wrote old mid at n xs → Wrote mid new n m ys → Wrote old new at m zs
-wrote_more old mid new at n m xs ys zs e a b =
-    record {
-      counts = let p = a.counts in let q = b.counts in let l = ap length e ∙ length-append xs ys in omega arith;
-      front = b.front ∙ ap (λ z. z ++ ys) a.front ∙ append_assoc (take at old) xs ys ∙ ap (λ z. take at old ++ z) (sym e);
-    }
-
--- the same by other names
-pub wrote_at : (old new new' : List ℕ) (at m m' : ℕ) (xs : List ℕ) → new ≡ new' → m ≡ m' → Wrote old new' at m' xs → Wrote old new at m xs
-wrote_at old new new' at m m' xs p q w = subst (λ z. Wrote old z at m xs) (sym p) (subst (λ z. Wrote old new' at z xs) (sym q) w)
-
-pub wrote_code : (old new : List ℕ) (n m c : ℕ) → m ≡ n + 1 → n < length old → new ≡ set old n c → Wrote old new n m (c ∷ [])
-wrote_code old new n m c p h e =
-    record {
-      counts = p;
-      front = ap₂ take (p ∙ add-one n) e ∙ take-suc-set old n c h;
-    }
-
 -- ── the recursion's needs ──
 
 -- what the variables of a bound term are bound to has a lower rank
@@ -110,31 +90,29 @@ below_term sig g end rep rank r forest ends b h v j from to w x =
     let stop = ends r t.0 t.1 in
     (b.ordered r j t.0 (b.ranked r h v) v t.1 from (omega arith) w x).1
 
-pub end_range : (sig : Arities) (g end : List ℕ) (r : ℕ) → IsForest sig g → Ends sig g end → r < length g → (r ≤ get_or end r 0) × (get_or end r 0 ≤ length g)
-end_range sig g end r forest ends h =
-    let t = stands_at sig g r forest h in
-    let stop = ends r t.0 t.1 in
-    let inside = t.1.inside in
-    (omega arith, omega arith)
-
 -- ── a turn ──
 
--- the codes ys for the code at j are written behind those before
-pub turn_writes : (μ : Subst) (g old mid new : List ℕ) (from j at n m : ℕ) (ys : List ℕ) → from ≤ j → j < length g → image μ (get_or g j 0) ≡ ys → Wrote old mid at n (written μ g from j) → Wrote mid new n m ys → Wrote old new at m (written μ g from (j + 1))
-turn_writes μ g old mid new from j at n m ys a b e x y =
-    wrote_more old mid new at n m (written μ g from j) ys (written μ g from (j + 1)) (written_more μ g from j a b ∙ ap (λ z. written μ g from j ++ z) e) x y
+-- the codes ys for the code at j are appended to those before
+pub turn_writes : (μ : Subst) (g old mid new : List ℕ) (from j : ℕ) (ys : List ℕ) → from ≤ j → j < length g → image μ (get_or g j 0) ≡ ys → mid ≡ old ++ written μ g from j → new ≡ mid ++ ys → new ≡ old ++ written μ g from (j + 1)
+turn_writes μ g old mid new from j ys a b e x y =
+    y
+    ∙ ap (λ z. z ++ ys) x
+    ∙ append_assoc old (written μ g from j) ys
+    ∙ ap (λ z. old ++ z) (sym (written_more μ g from j a b ∙ ap (λ z. written μ g from j ++ z) e))
 
--- if they do not fit, neither does the whole
-pub turn_fails : (μ : Subst) (g old mid : List ℕ) (from j to at n : ℕ) (ys : List ℕ) → from ≤ j → j < length g → j < to → image μ (get_or g j 0) ≡ ys → Wrote old mid at n (written μ g from j) → length mid ≡ length old → length mid < n + length ys → length old < at + length (written μ g from to)
-turn_fails μ g old mid from j to at n ys a b c e x same full =
+-- if they do not fit into the room, neither does the whole
+pub turn_fails : (μ : Subst) (g old mid : List ℕ) (room from j to : ℕ) (ys : List ℕ) → from ≤ j → j < length g → j < to → image μ (get_or g j 0) ≡ ys → mid ≡ old ++ written μ g from j → room < length mid + length ys → room < length old + length (written μ g from to)
+turn_fails μ g old mid room from j to ys a b c e x full =
+    let so_far = ap length x ∙ length-append old (written μ g from j) in
     let one_more = ap length (written_more μ g from j a b ∙ ap (λ z. written μ g from j ++ z) e) ∙ length-append (written μ g from j) ys in
     let longer = written_longer μ g from (j + 1) to (omega arith) (omega arith) in
-    let p = x.counts in
     omega arith
 
--- before the first turn nothing is written
-pub wrote_none : (old : List ℕ) (at m : ℕ) → m ≡ at → Wrote old old at m []
-wrote_none old at m e = record { counts = simp e (omega arith); front = ap (λ n. take n old) e ∙ sym (append-nil (take at old)) }
+-- before the first turn nothing is appended
+pub written_none : (μ : Subst) (g old : List ℕ) (from : ℕ) → old ≡ old ++ written μ g from from
+written_none μ g old from =
+    let none : from - from ≡ 0 = omega arith in
+    sym (ap (λ n. old ++ expand (image μ) (take n (drop from g))) none ∙ append-nil old)
 
 -- every rank is below 255
 pub below_all : (sig : Arities) (g rep rank : List ℕ) (from to : ℕ) → Bindings sig g rep rank → Below g rep rank from to 255
@@ -145,7 +123,8 @@ below_all sig g rep rank from to b j h k v w = let s = b.small (get_or rep j 0) 
 pub spliced_length : (μ : Subst) (g : List ℕ) (p q r s : ℕ) → length (spliced μ g p q r s) ≡ length (written μ g 0 p) + (length (written μ g q (length g)) + length (written μ g r s))
 spliced_length μ g p q r s = simp length-append
 
-pub spliced_wrote : (μ : Subst) (g old mid later new : List ℕ) (p q r s a b n : ℕ) → Wrote old mid 0 a (written μ g 0 p) → Wrote mid later a b (written μ g q (length g)) → Wrote later new b n (written μ g r s) → take n new ≡ spliced μ g p q r s
-spliced_wrote μ g old mid later new p q r s a b n x y z =
-    (wrote_more old mid new 0 a n (written μ g 0 p) (written μ g q (length g) ++ written μ g r s) _ refl x
-    (wrote_more mid later new a b n (written μ g q (length g)) (written μ g r s) _ refl y z)).front
+pub spliced_written : (μ : Subst) (g start one two three : List ℕ) (p q r s : ℕ) → start ≡ [] → one ≡ start ++ written μ g 0 p → two ≡ one ++ written μ g q (length g) → three ≡ two ++ written μ g r s → three ≡ spliced μ g p q r s
+spliced_written μ g start one two three p q r s none x y z =
+    z
+    ∙ ap (λ w. w ++ written μ g r s) (y ∙ ap (λ w. w ++ written μ g q (length g)) (x ∙ ap (λ w. w ++ written μ g 0 p) none))
+    ∙ append_assoc (written μ g 0 p) (written μ g q (length g)) (written μ g r s)

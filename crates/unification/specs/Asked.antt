@@ -1,12 +1,8 @@
 -- What is asked about two rules: whether they overlap at a place.
-use Rattle.std.specs.Prelude.{ℕ, ◌<◌, ◌≤◌, List, length, slice_index_or}
+use Rattle.std.specs.Prelude.{ℕ, ◌<◌, List, length, slice_index_or}
 use Rattle.terms.specs.Term.{Rule}
-use Rattle.terms.specs.Prefix.{Arities, IsTerm, term_of}
-
--- the bytes are a side of a rule: one term of the signature with the four variables of rules, of at most 32 bytes
-pub record IsSide (sig : Arities) (bs : List ℕ) : Type 0 where
-  pub term : IsTerm sig 4 bs
-  pub short : length bs ≤ 32
+use Rattle.terms.specs.Prefix.{Arities, term_of}
+use Rattle.terms.specs.Side.{IsSide}
 
 -- the rule with the sides that the bytes read as
 abbrev pub rule_of : Arities → List ℕ → List ℕ → Rule

@@ -1,12 +1,12 @@
 -- The critical pair of two rules at a place, and what is answered to the question for it.
-use Rattle.std.specs.Prelude.{◌≡◌, ℕ, ◌<◌, ◌≤◌, ◌⊎◌, List}
+use Rattle.std.specs.Prelude.{◌≡◌, ℕ, ◌<◌, ◌≤◌, ◌⊎◌, List, Result, Ok, Err}
 use Rattle.terms.specs.Term.{Term, Rule, Subst, sub, Occurs, size}
 use Rattle.terms.specs.Prefix.{Arities, WellSorted, prefix}
 use Rattle.terms.specs.Place.{part, replace}
 use Rattle.rewriting.specs.Unify.{IsMgu, NotUnifiable, distinct, renumbering}
 use Rattle.unification.specs.declared.critical.CriticalPair.{CriticalPair}
-use Rattle.unification.specs.declared.critical.Critical.{Critical}
-use Rattle.unification.specs.declared.critical.Critical.TheVariants.{Malformed, Apart, TooLong, Pair}
+use Rattle.unification.specs.declared.critical.NoPair.{NoPair}
+use Rattle.unification.specs.declared.critical.NoPair.TheVariants.{Malformed, Apart, TooLong}
 use Rattle.unification.specs.Asked.{Asked, rule_of}
 use Rattle.unification.specs.Written.{bytes_of}
 
@@ -46,15 +46,15 @@ pub record IsWritten (sig : Arities) (first second : Rule) (p : ℕ) (pair : Cri
   pub inner_sorted : NoNewVariable second → WellSorted sig 8 inner
 
 -- what is answered for two rules and a place of the first at which no variable stands
-abbrev pub OfRules : Arities → Rule → Rule → ℕ → Critical → Type 0
-OfRules sig first second p Malformed = ⊥
-OfRules sig first second p Apart = NotUnifiable (part first.left p) (distinct second.left)
-OfRules sig first second p TooLong = IsTooLong first second p
-OfRules sig first second p (Pair pair) = IsWritten sig first second p pair
+abbrev pub OfRules : Arities → Rule → Rule → ℕ → Result CriticalPair NoPair → Type 0
+OfRules sig first second p (Err Malformed) = ⊥
+OfRules sig first second p (Err Apart) = NotUnifiable (part first.left p) (distinct second.left)
+OfRules sig first second p (Err TooLong) = IsTooLong first second p
+OfRules sig first second p (Ok pair) = IsWritten sig first second p pair
 
 -- what is answered for any bytes l, r, l' and r' and any place p
-abbrev pub Answer : Arities → List ℕ → List ℕ → ℕ → List ℕ → List ℕ → Critical → Type 0
-Answer sig l r p l' r' Malformed = Asked sig l r p l' r' → ⊥
-Answer sig l r p l' r' Apart = Asked sig l r p l' r' × OfRules sig (rule_of sig l r) (rule_of sig l' r') p Apart
-Answer sig l r p l' r' TooLong = Asked sig l r p l' r' × OfRules sig (rule_of sig l r) (rule_of sig l' r') p TooLong
-Answer sig l r p l' r' (Pair pair) = Asked sig l r p l' r' × OfRules sig (rule_of sig l r) (rule_of sig l' r') p (Pair pair)
+abbrev pub Answer : Arities → List ℕ → List ℕ → ℕ → List ℕ → List ℕ → Result CriticalPair NoPair → Type 0
+Answer sig l r p l' r' (Err Malformed) = Asked sig l r p l' r' → ⊥
+Answer sig l r p l' r' (Err Apart) = Asked sig l r p l' r' × OfRules sig (rule_of sig l r) (rule_of sig l' r') p (Err Apart)
+Answer sig l r p l' r' (Err TooLong) = Asked sig l r p l' r' × OfRules sig (rule_of sig l r) (rule_of sig l' r') p (Err TooLong)
+Answer sig l r p l' r' (Ok pair) = Asked sig l r p l' r' × OfRules sig (rule_of sig l r) (rule_of sig l' r') p (Ok pair)

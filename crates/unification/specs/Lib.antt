@@ -1,5 +1,6 @@
 pub mod Standing
 pub mod Classes
+pub mod OneProof
 pub mod Writing
 pub mod Laying
 pub mod Asked

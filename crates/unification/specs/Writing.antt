@@ -1,16 +1,11 @@
 -- Terms written under a substitution.
-use Rattle.std.specs.Prelude.{◌≡◌, ℕ, ◌+◌, ◌<◌, ◌≤◌, List, ◌++◌, length, take, slice_index, slice_range}
+use Rattle.std.specs.Prelude.{ℕ, ◌<◌, ◌≤◌, List, ◌++◌, length, slice_index, slice_range}
 use Rattle.terms.specs.Term.{Subst}
 use Rattle.terms.specs.Prefix.{image, expand}
 
 -- the codes of g from the offset `from` up to `to`, under μ
 abbrev pub written : Subst → List ℕ → ℕ → ℕ → List ℕ
 written μ g from to = expand (image μ) (slice_range g from to)
-
--- the codes xs stand in `new` from the offset `at` up to m, behind what stood there
-pub record Wrote (old new : List ℕ) (at m : ℕ) (xs : List ℕ) : Type 0 where
-  pub counts : m ≡ at + length xs
-  pub front : take m new ≡ take at old ++ xs
 
 -- what the variables from the offset `from` up to `to` are bound to has a rank below `bound`
 abbrev pub Below : List ℕ → List ℕ → List ℕ → ℕ → ℕ → ℕ → Type 0

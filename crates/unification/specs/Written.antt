@@ -1,6 +1,7 @@
--- The bytes that a term is written as.
+-- The codes that stand in fixed memory.
 use Rattle.std.specs.Prelude.{ℕ, List, take}
-use Rattle.unification.specs.declared.written.Written.{Written}
+use Rattle.unification.specs.declared.written.Codes.{Codes}
 
-abbrev pub bytes_of : Written → List ℕ
-bytes_of w = take w.count w.bytes
+module _ {n : ℕ} where
+  abbrev pub bytes_of : Codes n → List ℕ
+  bytes_of w = take w.count w.bytes

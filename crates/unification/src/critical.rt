@@ -1,25 +1,20 @@
 // The critical pair of two rules at a place of the first left side.
-ghost use Rattle.std.specs.Prelude.{◌≡◌, ◌<◌, ◌≤◌, length, Decides};
+ghost use Rattle.std.specs.Prelude.{◌≡◌, ◌<◌, ◌≤◌, length, Decides, MatchOption};
 ghost use Rattle.terms.specs.Term.{Rule};
-ghost use Rattle.unification.specs.Standing.{Laid};
 ghost use Rattle.unification.specs.Classes.{Unified};
 ghost use Rattle.unification.specs.Laying.{Sides};
-ghost use Rattle.unification.specs.Asked.{IsSide, Asked};
-ghost use Rattle.unification.specs.Critical.{OfRules, Answer};
+ghost use Rattle.unification.specs.Written.{bytes_of};
+ghost use Rattle.unification.specs.Asked.{Asked};
+ghost use Rattle.unification.specs.Critical.{IsTooLong, IsWritten, OfRules, Answer};
 
-use crate::instances::{instance, replaced};
-use crate::laying::lay_sides;
+use crate::forest::{Forest, Unifier};
+use crate::laying::{LaidSides, lay_sides};
 use crate::numbering::{appearances, renumbered};
 use crate::standing::ends;
-use crate::unify::unify;
 use crate::written::Written;
-use terms::prefix::{Signature, VARIABLE, is_term};
-
-// The variables of rules.
-const VARIABLES: u8 = 4;
-
-// A side of a rule has at most so many bytes.
-const SIDE: usize = 32;
+use terms::prefix::{Signature, VARIABLE};
+use terms::side;
+use terms::side::is_side;
 
 // The peak, and the two terms that it is rewritten to: by the first rule at the root, and by the second at the place.
 #[derive(Clone, Copy)]
@@ -29,164 +24,95 @@ pub struct CriticalPair {
     pub inner: Written,
 }
 
-// What is answered to the question for a critical pair.
-#[derive(Clone, Copy)]
-pub enum Critical {
+// Why there is no critical pair.
+#[derive(Clone, Copy, PartialEq, Eq, Debug)]
+pub enum NoPair {
     // the question is about no rules, or no place of a symbol
     Malformed,
     // the left sides do not overlap at the place
     Apart,
     // a term of the critical pair has more than 255 symbols
     TooLong,
-    Pair(CriticalPair),
 }
 
-// Writes the critical pair under the unifier. The right sides begin at the offsets `right` and `last`, and the second left side at `second`.
+// The critical pair under the unifier, or None if one of its terms has more than 255 symbols.
 fn write_pair<S: Signature>(
-    signature: &S,
-    codes: &[u8],
-    end: &[u8],
-    rep: &[u8],
-    rank: &[u8],
+    unifier: &Unifier<S>,
     place: usize,
-    second: usize,
-    right: usize,
-    last: usize,
-) -> Critical
-    requires laid { Laid (S.Signature.arities signature.now) codes.now end.now }
-    requires unified { Unified (S.Signature.arities signature.now) codes.now rep.now rank.now place second }
-    requires inside { place < second }
-    requires sides { (a : Rule) × (b : Rule) × Sides (S.Signature.arities signature.now) codes.now second right last a b }
-    ensures { (a b : Rule) → Sides (S.Signature.arities signature.now) codes.now second right last a b → OfRules (S.Signature.arities signature.now) a b place result }
+    sides: &LaidSides,
+) -> Option<CriticalPair>
+    requires unified { Unified (S.Signature.arities unifier.now.forest.now.signature.now) unifier.now.forest.now.codes.now unifier.now.rep.now unifier.now.rank.now place sides.now.second }
+    requires inside { place < sides.now.second }
+    requires sides { (a : Rule) × (b : Rule) × Sides (S.Signature.arities unifier.now.forest.now.signature.now) unifier.now.forest.now.codes.now sides.now.second sides.now.right sides.now.last a b }
+    ensures { (a b : Rule) → Sides (S.Signature.arities unifier.now.forest.now.signature.now) unifier.now.forest.now.codes.now sides.now.second sides.now.right sides.now.last a b → MatchOption result (IsTooLong a b place) (IsWritten (S.Signature.arities unifier.now.forest.now.signature.now) a b place) }
 {
-    let Some(peak) = instance(signature, codes, end, rep, rank, 0, second) else {
-        return Critical::TooLong;
-    };
-    let Some(outer) = instance(signature, codes, end, rep, rank, right, last) else {
-        return Critical::TooLong;
-    };
-    let Some(inner) = replaced(signature, codes, end, rep, rank, place, last, second) else {
-        return Critical::TooLong;
-    };
-    let mut variables = [0u8; 8];
-    let n = appearances(peak.as_slice(), &mut variables);
-    let order = &variables[..n];
-    Critical::Pair(CriticalPair {
+    let peak = unifier.instance(0, sides.second)?;
+    let outer = unifier.instance(sides.right, sides.last)?;
+    let inner = unifier.replaced(place, sides.last, sides.second)?;
+    let variables = appearances(peak.as_slice());
+    let order = variables.as_slice();
+    Some(CriticalPair {
         peak: renumbered(order, &peak),
         outer: renumbered(order, &outer),
         inner: renumbered(order, &inner),
     })
 }
 
-// Decides whether the sides overlap, and writes the critical pair if they do. The tables have the length of the codes.
+// Decides whether the sides overlap, and writes the critical pair if they do.
 fn overlap<S: Signature>(
     signature: &S,
-    codes: &[u8],
-    end: &mut [u8],
-    rep: &mut [u8],
-    rank: &mut [u8],
     place: usize,
-    second: usize,
-    right: usize,
-    last: usize,
-) -> Critical
-    requires few { length codes.now ≤ 128 }
-    requires ends { length end.old ≡ length codes.now }
-    requires reps { length rep.old ≡ length codes.now }
-    requires ranks { length rank.old ≡ length codes.now }
-    requires inside { place < second }
-    requires sides { (a : Rule) × (b : Rule) × Sides (S.Signature.arities signature.now) codes.now second right last a b }
-    ensures { (a b : Rule) → Sides (S.Signature.arities signature.now) codes.now second right last a b → OfRules (S.Signature.arities signature.now) a b place result }
+    sides: &LaidSides,
+) -> Result<CriticalPair, NoPair>
+    requires inside { place < sides.now.second }
+    requires sides { (a : Rule) × (b : Rule) × Sides (S.Signature.arities signature.now) (bytes_of sides.now.codes) sides.now.second sides.now.right sides.now.last a b }
+    ensures { (a b : Rule) → Sides (S.Signature.arities signature.now) (bytes_of sides.now.codes) sides.now.second sides.now.right sides.now.last a b → OfRules (S.Signature.arities signature.now) a b place result }
 {
+    let codes = sides.codes.as_slice();
+    let (mut end, mut rep, mut rank) = ([0u8; 128], [0u8; 128], [0u8; 128]);
+    let end = &mut end[..codes.len()];
+    let rep = &mut rep[..codes.len()];
+    let rank = &mut rank[..codes.len()];
     ends(signature, codes, end);
-    if !unify(signature, codes, end, place, second, rep, rank) {
-        return Critical::Apart;
-    }
-    write_pair(signature, codes, end, rep, rank, place, second, right, last)
-}
-
-// Whether the bytes are a side of a rule.
-fn is_side<S: Signature>(signature: &S, bytes: &[u8]) -> bool
-    ensures { Decides result (IsSide (S.Signature.arities signature.now) bytes.now) }
-{
-    bytes.len() <= SIDE && is_term(signature, VARIABLES, bytes)
+    let forest = Forest {
+        signature,
+        codes,
+        end,
+    };
+    let Some(unifier) = forest.unify(place, sides.second, rep, rank) else {
+        return Err(NoPair::Apart);
+    };
+    write_pair(&unifier, place, sides).ok_or(NoPair::TooLong)
 }
 
 // Whether the bytes are two rules, and a symbol stands at the place of the first left side.
 fn is_asked<S: Signature>(
     signature: &S,
-    first_left: &[u8],
-    first_right: &[u8],
+    first: side::Sides,
     place: usize,
-    second_left: &[u8],
-    second_right: &[u8],
+    second: side::Sides,
 ) -> bool
-    ensures { Decides result (Asked (S.Signature.arities signature.now) first_left.now first_right.now place second_left.now second_right.now) }
+    ensures { Decides result (Asked (S.Signature.arities signature.now) first.entry.left.now first.entry.right.now place second.entry.left.now second.entry.right.now) }
 {
-    if !is_side(signature, first_left) {
-        return false;
-    }
-    if !is_side(signature, first_right) {
-        return false;
-    }
-    if !is_side(signature, second_left) {
-        return false;
-    }
-    if !is_side(signature, second_right) {
-        return false;
-    }
-    if place >= first_left.len() {
-        return false;
-    }
-    first_left[place] < VARIABLE
+    is_side(signature, first.left)
+        && is_side(signature, first.right)
+        && is_side(signature, second.left)
+        && is_side(signature, second.right)
+        && first.left.get(place).is_some_and(|code| *code < VARIABLE)
 }
 
 // The critical pair of two rules at a place of the first left side, or why there is none: the left sides do not overlap there, a term of the pair
 // has more than 255 symbols, or the bytes are no rules with a symbol at the place.
 pub fn critical_pair<S: Signature>(
     signature: &S,
-    first_left: &[u8],
-    first_right: &[u8],
+    first: side::Sides,
     place: usize,
-    second_left: &[u8],
-    second_right: &[u8],
-) -> Critical
-    ensures { Answer (S.Signature.arities signature.now) first_left.now first_right.now place second_left.now second_right.now result }
+    second: side::Sides,
+) -> Result<CriticalPair, NoPair>
+    ensures { Answer (S.Signature.arities signature.now) first.entry.left.now first.entry.right.now place second.entry.left.now second.entry.right.now result }
 {
-    if !is_asked(
-        signature,
-        first_left,
-        first_right,
-        place,
-        second_left,
-        second_right,
-    ) {
-        return Critical::Malformed;
+    if !is_asked(signature, first, place, second) {
+        return Err(NoPair::Malformed);
     }
-    let second = first_left.len();
-    let right = second + second_left.len();
-    let last = right + first_right.len();
-    let mut codes = [0u8; 128];
-    let mut end = [0u8; 128];
-    let mut rep = [0u8; 128];
-    let mut rank = [0u8; 128];
-    let n = lay_sides(
-        signature,
-        &mut codes,
-        first_left,
-        first_right,
-        second_left,
-        second_right,
-    );
-    overlap(
-        signature,
-        &codes[..n],
-        &mut end[..n],
-        &mut rep[..n],
-        &mut rank[..n],
-        place,
-        second,
-        right,
-        last,
-    )
+    overlap(signature, place, &lay_sides(signature, first, second))
 }

@@ -1,14 +1,28 @@
 // The sides of two rules laid one after the other.
-ghost use Rattle.std.specs.Prelude.{◌≡◌, ℕ, ◌+◌, ◌<◌, ◌≤◌, [], ◌∷◌, length, take, slice_index};
+ghost use Rattle.std.specs.Prelude.{◌≡◌, ℕ, ◌+◌, ◌<◌, ◌≤◌, [], ◌∷◌, ◌++◌, length, slice_index};
 ghost use Rattle.terms.specs.Prefix.{image};
-ghost use Rattle.unification.specs.Writing.{written, Wrote};
+ghost use Rattle.terms.specs.Side.{IsSide};
+ghost use Rattle.unification.specs.Writing.{written};
+ghost use Rattle.unification.specs.Written.{bytes_of};
 ghost use Rattle.unification.specs.Laying.{moved, Sides};
-ghost use Rattle.unification.specs.Asked.{IsSide, rule_of};
+ghost use Rattle.unification.specs.Asked.{rule_of};
 
+use crate::written::Codes;
 use terms::prefix::{Signature, VARIABLE};
+use terms::side;
+use terms::side::RULE_VARIABLES;
 
-// What is added to the variables of the second rule: the first has the four before.
-const DISTINCT: u8 = 4;
+// What is added to the variables of the second rule: those of the first come before.
+const DISTINCT: u8 = RULE_VARIABLES;
+
+// Both left sides and behind them both right sides: the codes, and the offsets at which the second left side and the right sides begin.
+#[derive(Clone, Copy)]
+pub(crate) struct LaidSides {
+    pub(crate) codes: Codes<128>,
+    pub(crate) second: usize,
+    pub(crate) right: usize,
+    pub(crate) last: usize,
+}
 
 // A code with `shift` added to it if it is a variable.
 fn shifted(code: u8, shift: u8) -> u8
@@ -19,46 +33,44 @@ fn shifted(code: u8, shift: u8) -> u8
     if code < VARIABLE { code } else { code + shift }
 }
 
-// Writes the bytes at the offset `at`, with `shift` added to each variable.
-fn lay(out: &mut [u8], at: usize, bytes: &[u8], shift: u8)
-    requires room { at + length bytes.now ≤ length out.old }
+// Appends the bytes, with `shift` added to each variable.
+fn lay(out: &mut Codes<128>, bytes: &[u8], shift: u8)
+    requires room { length (bytes_of out.old) + length bytes.now ≤ 128 }
     requires low { (k : ℕ) → k < length bytes.now → slice_index bytes.now k < 132 }
     requires small { shift ≤ 4 }
-    ensures { Wrote out.old out.new at (at + length bytes.now) (written (moved shift) bytes.now 0 (length bytes.now)) }
+    ensures codes { bytes_of out.new ≡ bytes_of out.old ++ written (moved shift) bytes.now 0 (length bytes.now) }
+    ensures long { length (bytes_of out.new) ≡ length (bytes_of out.old) + length bytes.now }
 {
-    for i in 0..bytes.len() {
-        out[at + i] = shifted(bytes[i], shift);
+    for code in bytes {
+        out.push(shifted(*code, shift));
     }
 }
 
-// Lays the two left sides, and behind them the two right sides, the variables of the second rule made distinct. Answers their length.
+// The sides of two rules laid one after the other, the variables of the second rule made distinct.
 pub(crate) fn lay_sides<S: Signature>(
     signature: &S,
-    codes: &mut [u8],
-    first_left: &[u8],
-    first_right: &[u8],
-    second_left: &[u8],
-    second_right: &[u8],
-) -> usize
-    requires room { length codes.old ≡ 128 }
-    requires left { IsSide (S.Signature.arities signature.now) first_left.now }
-    requires right { IsSide (S.Signature.arities signature.now) first_right.now }
-    requires second { IsSide (S.Signature.arities signature.now) second_left.now }
-    requires last { IsSide (S.Signature.arities signature.now) second_right.now }
-    ensures few { result ≤ 128 }
-    ensures sides { Sides (S.Signature.arities signature.now) (take result codes.new)
-        (length first_left.now)
-        (length first_left.now + length second_left.now)
-        (length first_left.now + length second_left.now + length first_right.now)
-        (rule_of (S.Signature.arities signature.now) first_left.now first_right.now)
-        (rule_of (S.Signature.arities signature.now) second_left.now second_right.now) }
+    first: side::Sides,
+    second: side::Sides,
+) -> LaidSides
+    requires left { IsSide (S.Signature.arities signature.now) first.left.now }
+    requires right { IsSide (S.Signature.arities signature.now) first.right.now }
+    requires second { IsSide (S.Signature.arities signature.now) second.left.now }
+    requires last { IsSide (S.Signature.arities signature.now) second.right.now }
+    ensures second { result.second ≡ length first.entry.left.now }
+    ensures sides { Sides (S.Signature.arities signature.now) (bytes_of result.codes) result.second result.right result.last
+        (rule_of (S.Signature.arities signature.now) first.entry.left.now first.entry.right.now)
+        (rule_of (S.Signature.arities signature.now) second.entry.left.now second.entry.right.now) }
 {
-    let second = first_left.len();
-    let right = second + second_left.len();
-    let last = right + first_right.len();
-    lay(codes, 0, first_left, 0);
-    lay(codes, second, second_left, DISTINCT);
-    lay(codes, right, first_right, 0);
-    lay(codes, last, second_right, DISTINCT);
-    last + second_right.len()
+    let right = first.left.len() + second.left.len();
+    let mut codes = Codes::new();
+    lay(&mut codes, first.left, 0);
+    lay(&mut codes, second.left, DISTINCT);
+    lay(&mut codes, first.right, 0);
+    lay(&mut codes, second.right, DISTINCT);
+    LaidSides {
+        codes,
+        second: first.left.len(),
+        right,
+        last: right + first.right.len(),
+    }
 }

@@ -3,6 +3,7 @@
 
 mod classes;
 pub mod critical;
+mod forest;
 mod instances;
 mod laying;
 mod numbering;

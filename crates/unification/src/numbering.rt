@@ -1,31 +1,25 @@
 // Variables renumbered by first appearance.
-ghost use Rattle.std.specs.Prelude.{◌≡◌, ℕ, ◌<◌, ◌≤◌, [], ◌∷◌, length, take, slice_index};
+ghost use Rattle.std.specs.Prelude.{◌≡◌, ℕ, ◌<◌, ◌≤◌, [], ◌∷◌, length, slice_index};
 ghost use Rattle.terms.specs.Prefix.{image, expand};
 ghost use Rattle.unification.specs.Numbering.{seen_among, numbered};
 ghost use Rattle.unification.specs.Written.{bytes_of};
 
 use crate::classes::first_code;
-use crate::written::Written;
+use crate::written::{Codes, Written};
 use terms::prefix::VARIABLE;
 
-// Writes the variables among the codes in the sequence of their first appearance, and answers how many there are.
-pub(crate) fn appearances(codes: &[u8], variables: &mut [u8]) -> usize
-    requires eight { length variables.old ≡ 8 }
-    requires low { (k : ℕ) → k < length codes.now → slice_index codes.now k < 136 }
-    ensures few { result ≤ 8 }
-    ensures seen { take result variables.new ≡ seen_among [] codes.now }
+// The variables among the codes in the sequence of their first appearance; there are eight at most.
+pub(crate) fn appearances(codes: &[u8]) -> Codes<8>
+    requires { (k : ℕ) → k < length codes.now → slice_index codes.now k < 136 }
+    ensures { bytes_of result ≡ seen_among [] codes.now }
 {
-    let mut n: usize = 0;
-    for i in 0..codes.len() {
-        let x = codes[i];
-        if x >= VARIABLE {
-            if first_code(&variables[..n], x) == n {
-                variables[n] = x;
-                n += 1;
-            }
+    let mut variables = Codes::new();
+    for x in codes {
+        if *x >= VARIABLE && !variables.as_slice().contains(x) {
+            variables.push(*x);
         }
     }
-    n
+    variables
 }
 
 // A code with the number of its variable, if it is one.
@@ -42,15 +36,12 @@ fn number(variables: &[u8], code: u8) -> u8
 // The term with its variables renumbered.
 pub(crate) fn renumbered(variables: &[u8], term: &Written) -> Written
     requires { length variables.now ≤ 8 }
-    ensures short { length (bytes_of result) ≤ 255 }
-    ensures each { bytes_of result ≡ expand (image (numbered variables.now)) (bytes_of term.now) }
+    ensures { bytes_of result ≡ expand (image (numbered variables.now)) (bytes_of term.now) }
 {
-    let mut bytes = [0u8; 255];
-    for i in 0..term.count as usize {
-        bytes[i] = number(variables, term.bytes[i]);
+    let codes = term.as_slice();
+    let mut out = Written::new();
+    for code in codes {
+        out.push(number(variables, *code));
     }
-    Written {
-        bytes,
-        count: term.count,
-    }
+    out
 }

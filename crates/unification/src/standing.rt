@@ -9,9 +9,10 @@ pub(crate) fn arguments<S: Signature>(signature: &S, c: u8) -> u8
     ensures { result ≡ arguments_of (S.Signature.arities signature.now) c }
 {
     if c < VARIABLE {
-        return signature.arity(c).unwrap_or(0);
+        signature.arity(c).unwrap_or(0)
+    } else {
+        0
     }
-    0
 }
 
 // The offset behind the term at each offset.
@@ -21,9 +22,7 @@ pub(crate) fn ends<S: Signature>(signature: &S, codes: &[u8], end: &mut [u8])
     requires room { length end.old ≡ length codes.now }
     ensures { Ends (S.Signature.arities signature.now) codes.now end.new }
 {
-    let mut i = codes.len();
-    while i > 0 {
-        i -= 1;
+    for i in (0..codes.len()).rev() {
         let mut e = i + 1;
         let many = arguments(signature, codes[i]);
         for _k in 0..many {

@@ -1,35 +1,39 @@
 // Whether two terms have a unifier.
-ghost use Rattle.std.specs.Prelude.{◌≡◌, ◌<◌, T, length};
-ghost use Rattle.unification.specs.Standing.{Laid};
+ghost use Rattle.std.specs.Prelude.{◌≡◌, ◌<◌, length, MatchOption};
 ghost use Rattle.unification.specs.Classes.{Unified, NotUnified};
 
-use crate::classes::{begin, close};
-use crate::ranks::order;
+use crate::forest::{Forest, Partition, Unifier};
 use terms::prefix::Signature;
 
-// Whether the terms at the offsets `p` and `q` have a unifier. If so, `rep` and `rank` describe a most general one.
-pub(crate) fn unify<S: Signature>(
-    signature: &S,
-    codes: &[u8],
-    end: &[u8],
-    p: usize,
-    q: usize,
-    rep: &mut [u8],
-    rank: &mut [u8],
-) -> bool
-    requires laid { Laid (S.Signature.arities signature.now) codes.now end.now }
-    requires first { p < length codes.now }
-    requires second { q < length codes.now }
-    requires reps { length rep.old ≡ length codes.now }
-    requires ranks { length rank.old ≡ length codes.now }
-    ensures yes { T result → Unified (S.Signature.arities signature.now) codes.now rep.new rank.new p q }
-    ensures no { (T result → ⊥) → NotUnified (S.Signature.arities signature.now) codes.now p q }
-{
-    if !begin(signature, codes, end, p, q, rep) {
-        return false;
+impl<'a, S: Signature> Forest<'a, S> {
+    // A most general unifier of the terms at `p` and `q`, which takes the two tables; or None if they have no unifier.
+    pub(crate) fn unify<'b>(
+        &'b self,
+        p: usize,
+        q: usize,
+        rep: &'b mut [u8],
+        rank: &'b mut [u8],
+    ) -> Option<Unifier<'b, S>>
+        requires first { p < length self.now.codes.now }
+        requires second { q < length self.now.codes.now }
+        requires reps { length rep.old ≡ length self.now.codes.now }
+        requires ranks { length rank.old ≡ length self.now.codes.now }
+        ensures { MatchOption result
+            (NotUnified (S.Signature.arities self.now.signature.now) self.now.codes.now p q)
+            (λ u. (u.forest.now ≡ self.now)
+            × Unified (S.Signature.arities self.now.signature.now) self.now.codes.now u.rep.now u.rank.now p q) }
+    {
+        self.begin(p, q, &mut *rep)?;
+        self.close(&mut *rep)?;
+        let classes = Partition {
+            forest: &*self,
+            rep: &*rep,
+        };
+        classes.order(&mut *rank)?;
+        Some(Unifier {
+            forest: &*self,
+            rep: &*rep,
+            rank: &*rank,
+        })
     }
-    if !close(signature, codes, end, rep) {
-        return false;
-    }
-    order(signature, codes, end, rep, rank)
 }

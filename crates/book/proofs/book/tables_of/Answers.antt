@@ -2,7 +2,8 @@ use Rattle.std.proofs.Common.{ℕ, ◌<◌, get_or, ap, ◌∙◌, subst, arith}
 use Rattle.std.proofs.lemmas.Result.{err_from_is_err_and}
 use Rattle.book.specs.Questions.{NotRead}
 use Rattle.book.specs.Views.{meant}
-use Rattle.book.proofs.Progress.{field_came, end_came, inside, few_symbols, laid_here, progress_more, progress_end, refused_cut, refused_field}
+use Rattle.book.proofs.ReaderAnswers.{field_came, end_came}
+use Rattle.book.proofs.Progress.{inside, few_symbols, laid_here, progress_more, progress_end, refused_cut, refused_field}
 use Rattle.book.proofs.book.tables_of.Goals as goal
 
 pub returns-in_err-field : goal.returns-in_err-field
@@ -23,7 +24,7 @@ loop-field-preserved c =
     let p = c.loop-field.invariant.1 in
     let r = field_came c.args.bytes.now c.loop-field.reader.bytes.now c.loop-field.invariant.0 _ _ c.in_ok-field.field-0 c.in_ok-field.ensures.answer c.in-Some.field c.in-Some.is in
     let small : (i : ℕ) → get_or c.args.bytes.now i 0 < 256 = λ i. omega (arith, c.type_inv.bytes i) in
-    let entered = c.in_ok-enter.ensures.answer p.before (laid_here _ _ _ p) p.tables (r.offset_is ∙ p.reached) in (
+    let entered = c.in_ok-enter.ensures.answer p.before (record { laid = laid_here _ _ _ p; told = p.tables; offset = r.offset_is ∙ p.reached }) in (
       c.next.ensures.bytes ∙ c.loop-field.invariant.0,
       progress_more _ _ _ p small c.in-Some.field.offset (meant c.in-Some.field) c.next.new.self.at r entered.0 c.enter.new.self entered.1 (ap (λ b. b.now) c.enter.ensures.bytes ∙ p.bytes_are),
     )
@@ -33,7 +34,7 @@ returns-in_err-enter c =
     let p = c.loop-field.invariant.1 in
     let r = field_came c.args.bytes.now c.loop-field.reader.bytes.now c.loop-field.invariant.0 _ _ c.in_ok-field.field-0 c.in_ok-field.ensures.answer c.in-Some.field c.in-Some.is in
     let e = c.in_err-enter.field-0.0 in
-    let refused = c.in_err-enter.ensures.answer p.before (laid_here _ _ _ p) p.tables (r.offset_is ∙ p.reached) in
+    let refused = c.in_err-enter.ensures.answer p.before (record { laid = laid_here _ _ _ p; told = p.tables; offset = r.offset_is ∙ p.reached }) in
     let q = err_from_is_err_and c.from_residual-in_err-enter.result c.from_residual-in_err-enter.ensures.1 in
     rw (q.1, q.2) (refused_field _ _ _ p c.in-Some.field.offset (meant c.in-Some.field) c.next.new.self.at e r refused.0 refused.1)
 

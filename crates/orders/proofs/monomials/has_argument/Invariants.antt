@@ -1,6 +1,10 @@
--- No monomial before the k-th has the argument.
-use Rattle.std.proofs.Common.{◌≡◌, ℕ, ◌+◌, ◌*◌, ◌<◌, get_or}
+-- Some monomial has the argument if one of those that are left has it.
+use Rattle.std.proofs.Common.{◌≤◌}
+use Rattle.polynomials.specs.Polynomial.{degree}
+use Rattle.polynomials.specs.Coding.{polynomial_from}
 use Rattle.orders.proofs.monomials.has_argument.Given as goal
 
-abbrev pub invariant-loop-k : goal.invariant-loop-k
-invariant-loop-k l = (j : ℕ) → j < l.k → get_or l.initial.monomials (7 * j + 4 + l.initial.i) 0 ≡ 0
+abbrev pub invariant-loop-monomial : goal.invariant-loop-monomial
+invariant-loop-monomial l =
+    (1 ≤ degree l.i (polynomial_from l.monomial-iterator.bytes.now) → 1 ≤ degree l.i (polynomial_from l.monomials.bytes.now))
+    × (1 ≤ degree l.i (polynomial_from l.monomials.bytes.now) → 1 ≤ degree l.i (polynomial_from l.monomial-iterator.bytes.now))

@@ -4,4 +4,4 @@ use Rattle.orders.specs.Polynomials.{HasArguments}
 use Rattle.orders.proofs.monomials.has_arguments.Given as goal
 
 abbrev pub invariant-loop-i : goal.invariant-loop-i
-invariant-loop-i l = HasArguments l.i (polynomial_from l.initial.monomials)
+invariant-loop-i l = HasArguments l.i (polynomial_from l.initial.monomials.bytes.now)

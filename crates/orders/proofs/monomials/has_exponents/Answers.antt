@@ -1,12 +1,34 @@
-use Rattle.polynomials.specs.Coding.{monomial_at}
-use Rattle.std.proofs.Common.{◌*◌}
-use Rattle.orders.proofs.MonomialLists.{has_one, has_not}
-use Rattle.orders.proofs.PathBytes.{says_no, says_yes}
+use Rattle.std.proofs.Common.{◌≡◌, [], ◌∷◌, sym, subst, inl, inr, arith}
+use Rattle.std.proofs.lemmas.Bool.Decides.{not_from_Decides}
+use Rattle.polynomials.specs.Polynomial.{Exponents, Monomial, Polynomial}
+use Rattle.polynomials.specs.Coding.{polynomial_from}
+use Rattle.polynomials.specs.Meant.{meant}
+use Rattle.orders.specs.Polynomials.{HasExponents}
+use Rattle.orders.proofs.PathBytes.{says_no, says_yes, same_slices}
+use Rattle.orders.proofs.MonomialLists.{alike_of, same_bytes}
 use Rattle.orders.proofs.monomials.has_exponents.Goals as goal
 
-pub returns-then-same_exponents : goal.returns-then-same_exponents
-returns-then-same_exponents c =
-    says_yes _ (has_one (monomial_at c.args.monomials.now (7 * c.args.k)).exponents c.args.monomials.now c.args.k c.loop-j.j c.loop-j-test.true (c.same_exponents.ensures.0 c.if-same_exponents.true))
+pub returns-then-eq : goal.returns-then-eq
+returns-then-eq c =
+    let e : polynomial_from c.loop-monomial.monomial-iterator.bytes.now ≡ meant c.in-Some.monomial ∷ polynomial_from c.next.new.self.bytes.now = c.in-Some.ensures.steps in
+    let same = (same_slices c.in-Some.monomial.exponents c.args.of.now.exponents c.eq.result c.eq.ensures).0 c.if-eq.true in
+    let alike : (meant c.in-Some.monomial).exponents ≡ (meant c.args.of.now).exponents = alike_of c.in-Some.monomial c.args.of.now same in
+    says_yes _ (c.loop-monomial.invariant.0 (subst (HasExponents (meant c.args.of.now).exponents) (sym e) (inl alike)))
+
+pub loop-monomial-preserved : goal.loop-monomial-preserved
+loop-monomial-preserved c =
+    let e : polynomial_from c.loop-monomial.monomial-iterator.bytes.now ≡ meant c.in-Some.monomial ∷ polynomial_from c.next.new.self.bytes.now = c.in-Some.ensures.steps in
+    let other = not_from_Decides c.eq.result (same_slices c.in-Some.monomial.exponents c.args.of.now.exponents c.eq.result c.eq.ensures) c.if-eq.false in
+    let x = (meant c.args.of.now).exponents in (
+      (λ h. c.loop-monomial.invariant.0 (subst (HasExponents x) (sym e) (inr h))),
+      (λ h. behind x (meant c.in-Some.monomial) (polynomial_from c.next.new.self.bytes.now) (λ s. other (same_bytes c.in-Some.monomial c.args.of.now (omega arith) (omega arith) s)) (subst (HasExponents x) e (c.loop-monomial.invariant.1 h))),
+    )
+  where
+    behind : (x : Exponents) (m : Monomial) (p : Polynomial) → (m.exponents ≡ x → ⊥) → HasExponents x (m ∷ p) → HasExponents x p
+    behind x m p n (inl s) = absurd (n s)
+    behind x m p n (inr h) = h
 
 pub returns : goal.returns
-returns c = says_no _ (has_not (monomial_at c.args.monomials.now (7 * c.args.k)).exponents c.args.monomials.now c.args.k c.loop-j.j c.loop-j-test.false c.loop-j.invariant)
+returns c =
+    let e : polynomial_from c.loop-monomial.monomial-iterator.bytes.now ≡ [] = c.in-None.ensures.steps.0 in
+    says_no _ (λ h. subst (HasExponents (meant c.args.of.now).exponents) e (c.loop-monomial.invariant.1 h))

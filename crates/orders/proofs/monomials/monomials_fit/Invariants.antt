@@ -1,8 +1,13 @@
--- The monomials before the k-th fit.
-use Rattle.std.proofs.Common.{[]}
-use Rattle.polynomials.specs.Coding.{monomials_at}
-use Rattle.orders.specs.Polynomials.{MonomialsFit}
+-- All monomials fit if those that are left do.
+use Rattle.std.proofs.Common.{length}
+use Rattle.polynomials.specs.Coding.{polynomial_from}
+use Rattle.orders.proofs.MonomialLists.{FitApart}
 use Rattle.orders.proofs.monomials.monomials_fit.Given as goal
 
-abbrev pub invariant-loop-k : goal.invariant-loop-k
-invariant-loop-k l = MonomialsFit l.initial.arity [] (monomials_at l.k 0 l.initial.monomials)
+abbrev pub invariant-loop-monomial : goal.invariant-loop-monomial
+invariant-loop-monomial l =
+    (FitApart l.arity (polynomial_from l.rest.bytes.now) → FitApart l.arity (polynomial_from l.monomials.bytes.now))
+    × (FitApart l.arity (polynomial_from l.monomials.bytes.now) → FitApart l.arity (polynomial_from l.rest.bytes.now))
+
+abbrev pub decreases-loop-monomial : goal.decreases-loop-monomial
+decreases-loop-monomial l = length (polynomial_from l.rest.bytes.now)

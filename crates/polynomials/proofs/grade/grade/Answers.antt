@@ -1,10 +1,13 @@
+use Rattle.std.proofs.Common.{◌∙◌}
+use Rattle.terms.specs.Prefix.{term_of}
+use Rattle.polynomials.proofs.GradeTests.{term_held}
 use Rattle.polynomials.proofs.grade.grade.Goals as goal
-
-pub grade_terms-requires : goal.grade_terms-requires
-grade_terms-requires g c = record { left = c.is_term.ensures.0 c.if-not-is_term.false; right = c.is_term-2.ensures.0 c.if-not-is_term-2.false }
 
 pub returns : goal.returns
 returns g c =
-    let s = c.is_term.ensures.0 c.if-not-is_term.false in
-    let t = c.is_term-2.ensures.0 c.if-not-is_term-2.false in
-    (s.0, t.0, s.1, t.1, c.grade_terms.ensures s.0 t.0 s.1 t.1)
+    let l = c.in_ok-left.ensures in
+    let r = c.in_ok-right.ensures in
+    let held_s = rw (l.0, l.1) at (term_held (g.S.Symbols.signature c.in_ok-left.left.symbols.now) c.in_ok-left.left.bytes.now c.in_ok-left.left.is_one) in
+    let held_t = rw (r.0, r.1) at (term_held (g.S.Symbols.signature c.in_ok-right.right.symbols.now) c.in_ok-right.right.bytes.now c.in_ok-right.right.is_one) in
+    let graded = simp (l.0, l.1, r.0, r.1) at c.grade_terms.ensures in
+    (term_of _ c.args.left.now, term_of _ c.args.right.now, held_s, held_t, c.number.ensures ∙ graded _ _ held_s held_t)

@@ -1,48 +1,29 @@
-use Rattle.std.proofs.Common.{refl}
-use Rattle.stepping.proofs.Results.{behind_the_end, no_such_rule, can_match, not_matched, can_write, step_done, step_without_room}
+use Rattle.std.specs.Option.{ok_or}
+use Rattle.std.proofs.lemmas.Option.{MatchOption-at_some, MatchOption-at_none}
+use Rattle.book.specs.Meaning.{signature_of, rules_of}
+use Rattle.stepping.specs.declared.outcome.RewriteFault.TheVariants as fault
+use Rattle.stepping.specs.Stepping.{RewriteAnswer}
+use Rattle.stepping.specs.Subjects.{signature_on, rules_on}
+use Rattle.stepping.proofs.Results.{along, refused, no_match_answer, can_write, step_written}
 use Rattle.stepping.proofs.step.rewrite_at.Goals as goal
 
-pub returns-then-place-term : goal.returns-then-place-term
-returns-then-place-term c =
-    let t = c.if-not-is_term.ensures.0 refl in
-    ((t.0, t.1, behind_the_end c.args.book.now.tables.bytes.now c.args.variables c.args.term.now c.args.rule c.args.place t.0 t.1 c.if-place-term.true), refl)
-
-pub returns-in_default : goal.returns-in_default
-returns-in_default c =
-    let t = c.if-not-is_term.ensures.0 refl in
-    ((t.0, t.1, no_such_rule c.args.book.now.tables.bytes.now c.args.variables c.args.term.now c.args.rule c.args.place t.0 t.1 c.in_default.ensures), refl)
-
-pub matches-requires : goal.matches-requires
-matches-requires c =
-    let t = c.if-not-is_term.ensures.0 refl in
-    let m = can_match c.args.book.now.tables.bytes.now c.args.variables c.args.term.now c.args.rule c.args.place t.0 t.1 c.if-place-term.false
-    c.in-Some.sides.left.now c.in-Some.sides.right.now c.in-Some.ensures in
-    record { term = m.0; begins = m.1 }
-
-pub returns-in_default-matches : goal.returns-in_default-matches
-returns-in_default-matches c =
-    let t = c.if-not-is_term.ensures.0 refl in
-    let none = not_matched c.args.book.now.tables.bytes.now c.args.variables c.args.term.now c.args.rule c.args.place t.0 t.1 c.if-place-term.false
-    c.in-Some.sides.left.now c.in-Some.sides.right.now c.in-Some.ensures c.in_default-matches.ensures in
-    ((t.0, t.1, λ m. none m.matches), refl)
+pub returns-in_err-matched : goal.returns-in_err-matched
+returns-in_err-matched c =
+    let s = c.in_ok-subject.subject in
+    let is = MatchOption-at_some _ _ s c.in_ok-subject.ensures.ok_part c.new.ensures in
+    along (λ b v w. RewriteAnswer (signature_of b) v (rules_of b) w c.args.rule c.args.place c.args.page.now c.args.page.now c.from_residual-in_err-matched.result) is
+    (refused (RewriteAnswer (signature_on s) s.variables (rules_on s) s.term.now c.args.rule c.args.place c.args.page.now c.args.page.now) c.match_at.result fault.NoMatch _ c.from_residual-in_err-matched.result c.in_err-matched.ensures.value c.in_err-matched.ensures.ok_part c.from_residual-in_err-matched.ensures.1
+    (no_match_answer s c.args.rule c.args.place (MatchOption-at_none _ _ c.in_err-matched.ensures.ok_part c.match_at.ensures) c.args.page.now))
 
 pub write_replaced-requires : goal.write_replaced-requires
 write_replaced-requires c =
-    let t = c.if-not-is_term.ensures.0 refl in
-    let w = can_write c.args.book.now.tables.bytes.now c.args.variables c.args.term.now c.args.rule c.args.place t.0 t.1 c.if-place-term.false
-    c.in-Some.sides.left.now c.in-Some.sides.right.now c.in-Some.ensures c.in-Some-matches.found c.in-Some-matches.ensures in
-    record { len_in_bounds = w.0; all_within = w.1; side_bytes = w.2 }
+    can_write c.in_ok-subject.subject c.args.rule c.args.place c.in_ok-matched.matched (MatchOption-at_some _ _ c.in_ok-matched.matched c.in_ok-matched.ensures.ok_part c.match_at.ensures)
 
-pub returns-in-Some-write_replaced : goal.returns-in-Some-write_replaced
-returns-in-Some-write_replaced c =
-    let t = c.if-not-is_term.ensures.0 refl in
-    step_done c.args.book.now.tables.bytes.now c.args.variables c.args.term.now c.args.rule c.args.place t.0 t.1 c.if-place-term.false
-    c.in-Some.sides.left.now c.in-Some.sides.right.now c.in-Some.ensures c.in-Some-matches.found c.in-Some-matches.ensures
-    c.args.page.now c.write_replaced.new.page c.in-Some-write_replaced.n c.in-Some-write_replaced.ensures
-
-pub returns-in-None : goal.returns-in-None
-returns-in-None c =
-    let t = c.if-not-is_term.ensures.0 refl in
-    step_without_room c.args.book.now.tables.bytes.now c.args.variables c.args.term.now c.args.rule c.args.place t.0 t.1 c.if-place-term.false
-    c.in-Some.sides.left.now c.in-Some.sides.right.now c.in-Some.ensures c.in-Some-matches.found c.in-Some-matches.ensures
-    c.args.page.now c.write_replaced.new.page c.in-None.ensures
+pub returns : goal.returns
+returns c =
+    let s = c.in_ok-subject.subject in
+    let is = MatchOption-at_some _ _ s c.in_ok-subject.ensures.ok_part c.new.ensures in
+    let by = MatchOption-at_some _ _ c.in_ok-matched.matched c.in_ok-matched.ensures.ok_part c.match_at.ensures in
+    rw c.ok_or-3.ensures.value
+    (along (λ b v w. RewriteAnswer (signature_of b) v (rules_of b) w c.args.rule c.args.place c.args.page.now c.write_replaced.new.page (ok_or c.write_replaced.result fault.NoRoom)) is
+    (step_written s c.args.rule c.args.place c.in_ok-matched.matched by c.args.page.now c.write_replaced.new.page c.write_replaced.result c.write_replaced.ensures))

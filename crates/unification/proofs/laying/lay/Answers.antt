@@ -1,14 +1,11 @@
-use Rattle.std.proofs.Common.{◌+◌, refl, arith}
+use Rattle.std.proofs.Common.{◌∷◌, [], length, ap, arith, length-append}
+use Rattle.unification.specs.Written.{bytes_of}
 use Rattle.unification.specs.Laying.{moved}
-use Rattle.unification.proofs.Writes.{wrote_none, wrote_code, turn_writes}
+use Rattle.unification.proofs.Writes.{turn_writes}
 use Rattle.unification.proofs.laying.lay.Goals as goal
 
-pub loop-i-init : goal.loop-i-init
-loop-i-init c = wrote_none _ _ _ (omega arith)
-
-pub shifted-requires : goal.shifted-requires
-shifted-requires c = record { low = c.requires.low _ (omega arith); small = c.requires.small }
-
-pub loop-i-preserved : goal.loop-i-preserved
-loop-i-preserved c =
-    turn_writes (moved c.args.shift) c.args.bytes.now _ _ _ 0 c.loop-i.i c.args.at (c.args.at + c.loop-i.i) (c.args.at + (c.loop-i.i + 1)) _ (omega arith) (omega arith) c.shifted.ensures c.loop-i.invariant (wrote_code _ _ _ _ _ (omega arith) (omega arith) refl)
+pub loop-code-preserved : goal.loop-code-preserved
+loop-code-preserved c = (
+  turn_writes (moved c.args.shift) c.args.bytes.now _ _ _ 0 c.loop-code.code-index _ (omega arith) (omega arith) c.shifted.ensures c.loop-code.invariant.0 c.push.ensures,
+  omega (arith, ap length c.push.ensures, length-append (bytes_of c.loop-code.out) (c.shifted.result ∷ []), c.loop-code.invariant.1),
+)

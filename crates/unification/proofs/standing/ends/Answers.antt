@@ -43,6 +43,3 @@ loop-i-preserved g c =
       omega (arith, c.loop-i.invariant.0),
       ends_more _ _ _ _ _ (omega (arith, c.loop-i.invariant.0)) f (λ t h. left_need _ _ _ _ _ _ (omega arith) (c.loop-k.invariant.1 t h)),
     )
-
-pub returns : goal.returns
-returns g c = λ i t h. c.loop-i.invariant.1 i t (omega arith) h

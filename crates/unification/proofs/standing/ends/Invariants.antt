@@ -11,6 +11,3 @@ invariant-loop-k g l = (l.i < l.e) × ((t : Term) → Stands (g.S.Signature.arit
 -- the table is filled from i on
 abbrev pub invariant-loop-i : goal.invariant-loop-i
 invariant-loop-i g l = (l.i ≤ length l.codes) × EndsFrom (g.S.Signature.arities l.signature) l.codes l.end l.i
-
-abbrev pub decreases-loop-i : goal.decreases-loop-i
-decreases-loop-i g l = l.i

@@ -1,11 +1,18 @@
-use Rattle.std.proofs.Common.{sym, refl, subst, arith}
-use Rattle.book.specs.Tables.{Holds}
+use Rattle.std.proofs.Common.{sym, subst, [], length, arith, ap, ◌∙◌}
+use Rattle.book.specs.Format.{book_bytes, fields}
+use Rattle.book.specs.Questions.{Good}
+use Rattle.book.specs.Tables.{TablesOf}
 use Rattle.book.proofs.book.Book.empty.Goals as goal
 
 pub invariant_of-result : goal.invariant_of-result
 invariant_of-result c =
     let t = c.new.result in
+    let none = ap fields (sym c.new.ensures.bytes) in
     record {
-      holds = ∣ subst (λ bs. Holds bs t.arities t.symbols t.rules t.count) (sym c.new.ensures.bytes)
-          (record { short = omega arith; row = refl; good = tt; tabled = c.new.ensures.tabled }) ∣₁;
+      holds = ∣ record {
+        short = omega (arith, ap length c.new.ensures.bytes);
+        row = sym (ap book_bytes none) ∙ sym c.new.ensures.bytes;
+        good = subst (Good []) none tt;
+        tabled = subst (TablesOf t) none c.new.ensures.tabled;
+      } ∣₁;
     }

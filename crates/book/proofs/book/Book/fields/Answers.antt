@@ -7,4 +7,4 @@ pub invariant_of-result : goal.invariant_of-result
 invariant_of-result c =
     let t = c.args.self.now.tables in
     let made = c.new.ensures in
-    record { row = subst Row (sym (ap₂ drop made.1 made.0)) (held_row t.bytes.now t.arities t.symbols t.rules t.count c.args.self.now.holds) }
+    record { row = subst Row (sym (ap₂ drop made.1 made.0)) (held_row t c.args.self.now.holds) }

@@ -6,6 +6,6 @@ pub returns : goal.returns
 returns c =
     let t = c.args.self.now.tables in
     let held = c.args.self.now.holds in (
-      omega (arith, held_count t.bytes.now t.arities t.symbols t.rules t.count held),
-      omega (arith, held_few t.bytes.now t.arities t.symbols t.rules t.count held),
+      omega (arith, held_count t held),
+      omega (arith, held_few t held),
     )

@@ -5,4 +5,4 @@ use Rattle.book.proofs.book.Book.symbol_count.Goals as goal
 pub returns : goal.returns
 returns c =
     let t = c.args.self.now.tables in
-    omega (arith, held_symbols t.bytes.now t.arities t.symbols t.rules t.count c.args.self.now.holds)
+    omega (arith, held_symbols t c.args.self.now.holds)

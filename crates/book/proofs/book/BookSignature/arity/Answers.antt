@@ -5,4 +5,4 @@ use Rattle.book.proofs.book.BookSignature.arity.Goals as goal
 pub returns : goal.returns
 returns c =
     let t = c.args.self.now.tables in
-    c.arity.ensures ∙ held_arity t.bytes.now t.arities t.symbols t.rules t.count c.args.self.now.holds c.args.code
+    c.arity.ensures ∙ held_arity t c.args.self.now.holds c.args.code

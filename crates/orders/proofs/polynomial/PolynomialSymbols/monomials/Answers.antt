@@ -1,4 +1,4 @@
-use Rattle.std.proofs.Common.{◌≡◌, ℕ, ◌+◌, ◌-◌, ◌*◌, cond, List, [], length, get_or, take, drop, sym, ap, ◌∙◌, ap₂, arith, lt-ltb, ne_eqb}
+use Rattle.std.proofs.Common.{◌≡◌, ℕ, ◌+◌, ◌-◌, ◌*◌, List, length, get_or, take, drop, sym, ap, ◌∙◌, ap₂, arith}
 use Rattle.polynomials.specs.Coding.{polynomial_from}
 use Rattle.orders.specs.Polynomials.{length_before, monomials_from, Whole}
 use Rattle.orders.proofs.Interpreting.{length_read}
@@ -10,26 +10,25 @@ read_length bs read e p w = ap (λ bs. 256 * get_or bs (p - 3) 0 + get_or bs (p 
 pub overflow_sub-result : goal.overflow_sub-result
 overflow_sub-result c =
     let p = c.args.self.now in
-    let place = get_or p.places c.args.code 0 in
-    let w = p.whole c.args.code c.if-code-ge-VARIABLE.false c.if-place-eq0.false in
+    let place = c.in-Some.place in
+    let w = p.whole c.args.code place (sym c.in-Some.ensures) in
     omega (arith, read_length p.book.tables.bytes.now c.bytes-bytes.result.now c.bytes-bytes.ensures place w, w.1)
 
 pub slice_bounds-result-end-2 : goal.slice_bounds-result-end-2
 slice_bounds-result-end-2 c =
     let p = c.args.self.now in
-    let place = get_or p.places c.args.code 0 in
-    let w = p.whole c.args.code c.if-code-ge-VARIABLE.false c.if-place-eq0.false in
+    let place = c.in-Some.place in
+    let w = p.whole c.args.code place (sym c.in-Some.ensures) in
     omega (arith, read_length p.book.tables.bytes.now c.bytes-bytes.result.now c.bytes-bytes.ensures place w, ap length c.bytes-bytes.ensures, w.2)
 
 pub returns : goal.returns
 returns c =
     let p = c.args.self.now in
     let bs = p.book.tables.bytes.now in
-    let place = get_or p.places c.args.code 0 in
-    let w = p.whole c.args.code c.if-code-ge-VARIABLE.false c.if-place-eq0.false in
+    let place = c.in-Some.place in
+    let w = p.whole c.args.code place (sym c.in-Some.ensures) in
     let n = read_length bs c.bytes-bytes.result.now c.bytes-bytes.ensures place w in
     ap polynomial_from
     (ap₂ take (omega (arith, n)) (ap (drop place) c.bytes-bytes.ensures)
-    ∙ sym (ap (λ b. cond b [] (take (length_before bs place - 1) (drop place bs))) (ne_eqb place 0 c.if-place-eq0.false))
-    ∙ sym (ap (λ b. cond b (monomials_from bs place) []) (lt-ltb c.args.code 128 c.if-code-ge-VARIABLE.false))
+    ∙ ap (monomials_from bs) c.in-Some.ensures
     ∙ p.told c.args.code)

@@ -3,6 +3,6 @@ use Rattle.polynomials.proofs.table.Table.add.Given as goal
 
 abbrev pub invariant-loop-k : goal.invariant-loop-k
 invariant-loop-k l =
-    ((j : ℕ) → j < l.k → get_or l.self.cells j 0 ≡ get_or l.initial.self.cells j 0 + get_or l.a.cells j 0)
-    × ((j : ℕ) → l.k ≤ j → get_or l.self.cells j 0 ≡ get_or l.initial.self.cells j 0)
-    × (length l.self.cells ≡ length l.initial.self.cells)
+    ((j : ℕ) → j < l.k → get_or l.cell-items j 0 ≡ get_or l.initial.cell-items j 0 + get_or l.a.cells j 0)
+    × ((j : ℕ) → l.k ≤ j → get_or l.cell-items j 0 ≡ get_or l.initial.cell-items j 0)
+    × (length l.cell-items ≡ length l.initial.cell-items)

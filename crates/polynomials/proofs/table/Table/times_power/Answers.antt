@@ -1,6 +1,6 @@
 use Rattle.std.proofs.Common.{◌≡◌, sym, subst, arith}
 use Rattle.polynomials.specs.Cells.{Holds}
-use Rattle.polynomials.proofs.Algebra.{raised, raised_start, raised_more, turn_room, holds_power}
+use Rattle.polynomials.proofs.Identities.{raised, raised_start, raised_more, turn_room, holds_power}
 use Rattle.polynomials.proofs.table.Table.times_power.Goals as goal
 
 pub loop-k-init : goal.loop-k-init

@@ -1,6 +1,6 @@
 use Rattle.polynomials.specs.Polynomial.{Polynomial}
 use Rattle.polynomials.specs.Cells.{Holds, PowerRoom}
-use Rattle.polynomials.proofs.Algebra.{raised}
+use Rattle.polynomials.proofs.Identities.{raised}
 use Rattle.polynomials.proofs.table.Table.times_power.Given as goal
 
 abbrev pub invariant-loop-k : goal.invariant-loop-k

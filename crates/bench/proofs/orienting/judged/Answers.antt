@@ -1,0 +1,7 @@
+use Rattle.std.proofs.Common.{subst, inl}
+use Rattle.bench.specs.Lines.{line_of}
+use Rattle.bench.specs.Orienting.{BookLine}
+use Rattle.bench.proofs.orienting.judged.Goals as goal
+
+pub returns-in-Ok : goal.returns-in-Ok
+returns-in-Ok c = inl (c.in-Ok.ensures.answer, subst (λ bs. BookLine bs (line_of c.judged_book.result)) c.in-Ok.ensures.place c.judged_book.ensures)

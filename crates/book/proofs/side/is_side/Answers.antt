@@ -1,7 +1,0 @@
-use Rattle.std.proofs.Common.{arith}
-use Rattle.book.proofs.Sides.{side_is}
-use Rattle.book.proofs.side.is_side.Goals as goal
-
-pub returns-then-bytes-le-SIDE_LIMIT : goal.returns-then-bytes-le-SIDE_LIMIT
-returns-then-bytes-le-SIDE_LIMIT g c =
-    side_is (g.S.Signature.arities c.args.signature.now) c.args.bytes.now c.is_term.result (omega arith) c.is_term.ensures
