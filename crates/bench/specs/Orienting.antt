@@ -14,6 +14,7 @@ use Rattle.orders.specs.PolynomialFaults.{PolynomialsRefused}
 use Rattle.judge.specs.declared.orient_fault.OrientFault.{OrientFault}
 use Rattle.judge.specs.declared.orient_fault.OrientFault.TheVariants.{OtherSignature, NotOver}
 use Rattle.judge.specs.Orient.{Falls, number_of, OrientRefused}
+use Rattle.bench.specs.declared.refusal.Refusal.{Refusal}
 use Rattle.bench.specs.Lines.{oriented_line, refused_line}
 
 -- ── which line ──
@@ -22,6 +23,10 @@ use Rattle.bench.specs.Lines.{oriented_line, refused_line}
 abbrev pub rule_in : OrientFault → ℕ
 rule_in OtherSignature = 0
 rule_in (NotOver rule kind grade) = rule
+
+-- why a book is not oriented
+abbrev pub not_oriented : OrientFault → Refusal
+not_oriented e = record { number = number_of e; place = rule_in e }
 
 -- the line for a book and an order with a signature, a grade and a kind
 abbrev pub OrientLine : List ℕ → Arities → (List ℕ → List ℕ → ℕ) → ℕ → List ℕ → Type 0

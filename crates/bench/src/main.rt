@@ -3,6 +3,7 @@
 
 mod lines;
 mod orienting;
+mod refusal;
 mod verdict;
 
 use lines::verdict_line;

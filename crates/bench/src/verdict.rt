@@ -1,19 +1,20 @@
 // What is said of a book, and the line that says it.
-ghost use Rattle.std.specs.Prelude.{Some};
-ghost use Rattle.bench.specs.Lines.{line_of};
+ghost use Rattle.std.specs.Prelude.{◌≡◌, Some, IfOk, string_bytes};
+ghost use Rattle.bench.specs.Lines.{verdict_line, line_of};
 
+use crate::refusal::Refusal;
+use std::alloc::{AllocError, Global};
 use std::fmt;
 
-// A book is read, or also oriented by its order, or a question says no to it at an offset or of a rule.
+// A book is read, or also oriented by its order.
 #[derive(Clone, Copy, PartialEq, Eq, Debug)]
 pub(crate) enum Verdict {
     Read { symbols: usize, rules: usize },
     Oriented { rules: usize },
-    Refused { number: u8, place: usize },
 }
 
 impl fmt::Display for Verdict {
-    ghost output = { λ v. Some (line_of v) };
+    ghost output = { λ v. Some (verdict_line v) };
 
     fn fmt<W: fmt::Write>(&self, f: &mut fmt::Formatter<W>) -> fmt::Result {
         match *self {
@@ -26,11 +27,16 @@ impl fmt::Display for Verdict {
                 let rules = rules % 100_000;
                 write!(f, "oriented {rules:05}")
             }
-            Verdict::Refused { number, place } => {
-                let number = number % 100;
-                let place = place % 100_000;
-                write!(f, "refused {number:02} {place:05}")
-            }
         }
+    }
+}
+
+// The line for a verdict or a refusal.
+pub(crate) fn line(heap: Global, said: Result<Verdict, Refusal>) -> Result<String, AllocError>
+    ensures { IfOk result (λ s. string_bytes s ≡ line_of said) }
+{
+    match said {
+        Ok(verdict) => verdict.to_string(heap),
+        Err(refusal) => refusal.to_string(heap),
     }
 }

@@ -9,3 +9,4 @@ pub mod Walking
 pub mod Verdicts
 pub mod Samples
 pub mod Pairs
+pub mod Matching

@@ -63,8 +63,7 @@ impl<'a> Book<'a> {
     pub fn bytes(&self) -> &'a [u8]
         ensures { result.now ≡ self.now.tables.bytes.now }
     {
-        let tables = self.tables;
-        tables.bytes
+        self.tables.bytes
     }
 
     // How many symbols the book declares.

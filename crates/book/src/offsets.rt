@@ -1,6 +1,5 @@
 // The offsets of rules in a book's bytes.
 ghost use Rattle.std.specs.Prelude.{◌≡◌, ◌+◌, ◌<◌, ◌≤◌, [], ◌∷◌, ◌++◌, take, MatchOption, slice_index};
-ghost use Rattle.std.specs.Bool.{MatchBool};
 
 // The most rules that a book has.
 const RULE_LIMIT: usize = 32;
@@ -43,18 +42,18 @@ impl Offsets {
         Some(self.entries[i] as usize)
     }
 
-    // Puts one offset behind the others if there is room; says whether there was.
-    pub(crate) fn push(&mut self, offset: u16) -> bool
-        ensures { MatchBool result
-            ((self.old.count < 32) × (self.new.count ≡ self.old.count + 1)
-            × (take self.new.count self.new.entries ≡ take self.old.count self.old.entries ++ offset ∷ []))
-            (self.old.count ≡ 32) }
+    // Puts one offset behind the others, or leaves the list as it is and answers None if there is no room.
+    pub(crate) fn push(&mut self, offset: u16) -> Option<()>
+        ensures { MatchOption result
+            ((self.old.count ≡ 32) × (self.new ≡ self.old))
+            (λ _. (self.old.count < 32) × (self.new.count ≡ self.old.count + 1)
+            × (take self.new.count self.new.entries ≡ take self.old.count self.old.entries ++ offset ∷ [])) }
     {
         if self.count >= RULE_LIMIT {
-            return false;
+            return None;
         }
         self.entries[self.count] = offset;
         self.count += 1;
-        true
+        Some(())
     }
 }

@@ -6,7 +6,7 @@ use crate::fault::Fault;
 use crate::field::Field;
 
 // A tag and two bytes of length stand before a value.
-const HEADER: usize = 3;
+pub(crate) const HEADER: usize = 3;
 
 // Goes over lent bytes, field by field.
 #[derive(Drop)]

@@ -79,9 +79,7 @@ impl Shape {
         ensures { Decides result (FitsShape self.now length) }
     {
         let least = self.least as usize;
-        if length < least || length > self.most as usize {
-            return false;
-        }
-        (length - least) % self.step as usize == 0
+        let most = self.most as usize;
+        (least..=most).contains(&length) && (length - least) % self.step as usize == 0
     }
 }

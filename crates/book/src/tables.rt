@@ -13,15 +13,15 @@ use crate::fault::Fault;
 use crate::field::Field;
 use crate::offsets::Offsets;
 use crate::places::Places;
+use crate::reader::HEADER;
 use crate::shape::{Shape, Tag};
-use crate::side::is_side;
 use terms::prefix::Signature;
 
 // The most arguments of a symbol.
 const ARITY_LIMIT: u8 = 3;
 
 // A symbol's arity stands so many bytes behind the beginning of its field.
-const ARITY_AT: usize = 4;
+const ARITY_AT: usize = HEADER + 1;
 
 // `arities` has the place of each code's arity in the bytes, and `rules` the offset of each rule's field.
 #[derive(Clone, Copy)]
@@ -75,7 +75,7 @@ impl<'a> Tables<'a> {
         ensures { Decides result (SidesFit (kept_signature self.now) (meant field.now)) }
     {
         match field.sides() {
-            Some(sides) => is_side(self, sides.left) && is_side(self, sides.right),
+            Some(sides) => sides.fit(self),
             None => false,
         }
     }
@@ -96,12 +96,9 @@ impl<'a> Tables<'a> {
     {
         let code = field.value[0];
         let arity = field.value[1];
-        let fault = Fault::BadSymbol(field.offset);
-        if code == 0 || arity > ARITY_LIMIT {
-            return Err(fault);
-        }
-        if !self.arities.enter(code, (field.offset + ARITY_AT) as u16) {
-            return Err(fault);
+        let place = (field.offset + ARITY_AT) as u16;
+        if code == 0 || arity > ARITY_LIMIT || !self.arities.enter(code, place) {
+            return Err(Fault::BadSymbol(field.offset));
         }
         self.symbols += 1;
         Ok(())
@@ -124,10 +121,9 @@ impl<'a> Tables<'a> {
         if !self.has_sides(field) {
             return Err(Fault::BadRule(field.offset));
         }
-        if !self.rules.push(field.offset as u16) {
-            return Err(Fault::TooManyRules(field.offset));
-        }
-        Ok(())
+        self.rules
+            .push(field.offset as u16)
+            .ok_or(Fault::TooManyRules(field.offset))
     }
 
     // Asks the questions of one field more, and enters it if none says no.

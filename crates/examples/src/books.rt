@@ -1,37 +1,11 @@
 // Books that are read and books that are refused: which question says no first, and where.
+use crate::cases::{Case, Refusal, refused, taken};
 use book::book::Book;
 use std::alloc::{AllocError, Global};
 use std::process::Abort;
 use std::test::Fail;
 
-// The number of the question that says no, and the offset, 0 where none is carried.
-#[derive(Clone, Copy, PartialEq, Eq, Debug)]
-struct Refusal {
-    number: u8,
-    offset: usize,
-}
-
-// Bytes, and why they are refused; None where they are a book.
-#[derive(Clone, Copy)]
-struct Case<'a> {
-    bytes: &'a [u8],
-    refusal: Option<Refusal>,
-}
-
-fn read(bytes: &[u8]) -> Case<'_> {
-    Case {
-        bytes,
-        refusal: None,
-    }
-}
-
-fn refused(bytes: &[u8], number: u8, offset: usize) -> Case<'_> {
-    Case {
-        bytes,
-        refusal: Some(Refusal { number, offset }),
-    }
-}
-
+// Why the bytes are no book, or None if they are one.
 fn outcome(bytes: &[u8]) -> Option<Refusal> {
     let mut book = Book::empty();
     let fault = book.read(bytes).err()?;
@@ -53,7 +27,7 @@ fn whole_fields_and_tags(rt: HostRuntime) {
         &rt,
         &[
             // the empty book
-            read(b""),
+            taken(b""),
             // cut in the header, in the first field and behind a whole one
             refused(b"\x01", 2, 0),
             refused(b"\x01\x00", 2, 0),
@@ -87,11 +61,11 @@ fn lengths_of_values(rt: HostRuntime) -> Result<(), Fail> {
             refused(b"\x01\x00\x01\x01", 4, 0),
             refused(b"\x01\x00\x03\x01\x00\x00", 4, 0),
             refused(b"\x04\x00\x01\x01", 4, 0),
-            read(b"\x04\x00\x02\x01\x07"),
+            taken(b"\x04\x00\x02\x01\x07"),
             refused(b"\x04\x00\x03\x01\x07\x00", 4, 0),
             // a rule has three bytes at least
             refused(b"\x02\x00\x02\x01\x80", 4, 0),
-            read(b"\x02\x00\x03\x01\x80\x80"),
+            taken(b"\x02\x00\x03\x01\x80\x80"),
         ],
     );
     // from the least to the most, in steps
@@ -139,8 +113,8 @@ fn symbols(rt: HostRuntime) {
     check_cases(
         &rt,
         &[
-            read(b"\x01\x00\x02\x01\x00"),
-            read(b"\x01\x00\x02\x7F\x03"),
+            taken(b"\x01\x00\x02\x01\x00"),
+            taken(b"\x01\x00\x02\x7F\x03"),
             refused(b"\x01\x00\x02\x00\x00", 5, 0),
             refused(b"\x01\x00\x02\x80\x00", 5, 0),
             refused(b"\x01\x00\x02\xFF\x00", 5, 0),
@@ -162,7 +136,7 @@ fn rules(rt: HostRuntime) {
         &rt,
         &[
             // f(f(x)) to f(x), with f declared before the rule, and after it
-            read(b"\x01\x00\x02\x02\x01\x02\x00\x06\x03\x02\x02\x80\x02\x80"),
+            taken(b"\x01\x00\x02\x02\x01\x02\x00\x06\x03\x02\x02\x80\x02\x80"),
             refused(
                 b"\x02\x00\x06\x03\x02\x02\x80\x02\x80\x01\x00\x02\x02\x01",
                 6,
@@ -173,7 +147,7 @@ fn rules(rt: HostRuntime) {
             refused(b"\x02\x00\x03\x05\x80\x80", 6, 0),
             refused(b"\x02\x00\x03\x02\x80\x80", 6, 0),
             // the variables are 80 to 83
-            read(b"\x02\x00\x03\x01\x83\x80"),
+            taken(b"\x02\x00\x03\x01\x83\x80"),
             refused(b"\x02\x00\x03\x01\x84\x80", 6, 0),
             refused(b"\x02\x00\x03\x01\x80\x84", 6, 0),
             // a side that is two terms, and one that lacks an argument
@@ -216,9 +190,9 @@ fn sides_of_32_and_33_bytes(rt: HostRuntime) -> Result<(), Fail> {
     check_cases(
         &rt,
         &[
-            read(short.as_slice()),
+            taken(short.as_slice()),
             refused(long.as_slice(), 6, 5),
-            read(both.as_slice()),
+            taken(both.as_slice()),
             refused(right.as_slice(), 6, 5),
         ],
     );
@@ -231,7 +205,7 @@ fn rules_32_and_33(rt: HostRuntime) -> Result<(), Fail> {
     for _ in 0..32 {
         bytes.extend_from_slice(b"\x02\x00\x03\x01\x80\x80")?;
     }
-    check_cases(&rt, &[read(bytes.as_slice())]);
+    check_cases(&rt, &[taken(bytes.as_slice())]);
     let mut more = bytes.clone()?;
     more.extend_from_slice(b"\x02\x00\x03\x01\x80\x80")?;
     // a 33rd rule that is no rule is refused as such
@@ -267,7 +241,7 @@ fn bytes_4096_and_4097(rt: HostRuntime) -> Result<(), Fail> {
     assert_eq!(rt; over.len(), 4097);
     check_cases(
         &rt,
-        &[read(full.as_slice()), refused(over.as_slice(), 1, 0)],
+        &[taken(full.as_slice()), refused(over.as_slice(), 1, 0)],
     );
     Ok(())
 }

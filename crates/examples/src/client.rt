@@ -42,8 +42,7 @@ impl Refusal {
 // Opens the next overlap and settles it unshown.
 pub(crate) fn settle_next(judge: &mut Judge) -> Result<(), Refusal> {
     let ticket = judge.next()?;
-    judge.settle(ticket)?;
-    Ok(())
+    Ok(judge.settle(ticket)?)
 }
 
 // Opens the next overlap, shows that its sides join by these steps, and settles it, shown or not.

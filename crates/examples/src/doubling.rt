@@ -2,6 +2,7 @@
 ghost use Rattle.polynomials.specs.Examples.{doubled_arities, doubling, doubling_proper};
 
 use polynomials::symbols::Symbols;
+use terms::prefix::Signature;
 
 // Seven bytes for each monomial: 2 X and 1.
 const MONOMIALS: [u8; 14] = [0, 0, 0, 2, 1, 0, 0, 0, 0, 0, 1, 0, 0, 0];
@@ -9,12 +10,8 @@ const MONOMIALS: [u8; 14] = [0, 0, 0, 2, 1, 0, 0, 0, 0, 0, 1, 0, 0, 0];
 #[derive(Clone, Copy)]
 pub(crate) struct Doubling {}
 
-impl Symbols for Doubling {
-    ghost signature = { λ s. doubled_arities };
-
-    ghost interpretation = { λ s. doubling };
-
-    ghost proper = { λ s. doubling_proper };
+impl Signature for Doubling {
+    ghost arities = { λ s. doubled_arities };
 
     fn arity(&self, code: u8) -> Option<u8> {
         match code {
@@ -22,6 +19,12 @@ impl Symbols for Doubling {
             _ => None,
         }
     }
+}
+
+impl Symbols for Doubling {
+    ghost interpretation = { λ s. doubling };
+
+    ghost proper = { λ s. doubling_proper };
 
     fn monomials(&self, code: u8) -> &[u8] {
         if code == 2 {

@@ -1,4 +1,5 @@
 // Orders of books: how they grade, which books give none, and which books are oriented. The symbols are e 01/0, f 02/1, g 03/1, h 04/2; x is 80.
+use crate::cases::{Case, Refusal, refused, taken};
 use book::book::Book;
 use judge::judge::Judge;
 use judge::orient_fault::OrientFault;
@@ -117,168 +118,144 @@ fn the_fence_grades(rt: HostRuntime) {
     assert_eq!(rt; fence.arity(4), None);
 }
 
-// The number and the offset of the question that says no to the book's order, or None if it gives one.
-fn refusal<'a, O: BookOrder<'a>>(rt: &impl Abort, bytes: &'a [u8]) -> Option<(u8, usize)> {
+// Why the book gives no order, or None if it gives one.
+fn refusal<'a, O: BookOrder<'a>>(rt: &impl Abort, bytes: &'a [u8]) -> Option<Refusal> {
     let mut book = Book::empty();
     assert!(rt; book.read(bytes).is_ok());
     let mut order = O::empty();
-    match order.make(&book) {
-        Ok(()) => None,
-        Err(fault) => Some((fault.number(), fault.offset())),
+    let fault = order.make(&book).err()?;
+    Some(Refusal {
+        number: fault.number(),
+        offset: fault.offset(),
+    })
+}
+
+fn check_cases<'a, O: BookOrder<'a>>(rt: &impl Abort, cases: &[Case<'a>]) {
+    for c in cases {
+        assert_eq!(rt; refusal::<O>(rt, c.bytes), c.refusal);
     }
 }
 
 #[test]
 fn fields_of_polynomials(rt: HostRuntime) {
-    assert_eq!(rt; refusal::<Polynomial>(&rt, b""), None);
-    assert_eq!(rt; refusal::<Polynomial>(&rt, DOUBLING), None);
-    // the polynomial stands before its symbol
-    assert_eq!(rt;
-        refusal::<Polynomial>(
-            &rt,
-            b"\x03\x00\x08\x02\x00\x00\x00\x01\x01\x00\x00\x01\x00\x02\x02\x01"
-        ),
-        None
-    );
-    // 8: not declared; for the second time
-    assert_eq!(rt;
-        refusal::<Polynomial>(
-            &rt,
-            b"\x01\x00\x02\x02\x01\x03\x00\x08\x03\x00\x00\x00\x01\x01\x00\x00"
-        ),
-        Some((8, 5))
-    );
-    assert_eq!(rt;
-        refusal::<Polynomial>(
-            &rt,
-            b"\x01\x00\x02\x02\x01\x03\x00\x08\x02\x00\x00\x00\x01\x01\x00\x00\x03\x00\x08\x02\x00\x00\x00\x01\x01\x00\x00"
-        ),
-        Some((8, 16))
-    );
-    // 11: a symbol without one
-    assert_eq!(rt;
-        refusal::<Polynomial>(&rt, b"\x01\x00\x02\x02\x01"),
-        Some((11, 0))
-    );
-    assert_eq!(rt;
-        refusal::<Polynomial>(
-            &rt,
-            b"\x01\x00\x02\x02\x01\x01\x00\x02\x03\x01\x03\x00\x08\x02\x00\x00\x00\x01\x01\x00\x00"
-        ),
-        Some((11, 5))
+    check_cases::<Polynomial>(
+        &rt,
+        &[
+            taken(b""),
+            taken(DOUBLING),
+            // the polynomial stands before its symbol
+            taken(b"\x03\x00\x08\x02\x00\x00\x00\x01\x01\x00\x00\x01\x00\x02\x02\x01"),
+            // 8: not declared; for the second time
+            refused(
+                b"\x01\x00\x02\x02\x01\x03\x00\x08\x03\x00\x00\x00\x01\x01\x00\x00",
+                8,
+                5,
+            ),
+            refused(
+                b"\x01\x00\x02\x02\x01\x03\x00\x08\x02\x00\x00\x00\x01\x01\x00\x00\x03\x00\x08\x02\x00\x00\x00\x01\x01\x00\x00",
+                8,
+                16,
+            ),
+            // 11: a symbol without one
+            refused(b"\x01\x00\x02\x02\x01", 11, 0),
+            refused(
+                b"\x01\x00\x02\x02\x01\x01\x00\x02\x03\x01\x03\x00\x08\x02\x00\x00\x00\x01\x01\x00\x00",
+                11,
+                5,
+            ),
+        ],
     );
 }
 
 #[test]
 fn monomials_of_polynomials(rt: HostRuntime) {
-    // 9: the coefficient is 0, is 65,535, is 65,536
-    assert_eq!(rt;
-        refusal::<Polynomial>(
-            &rt,
-            b"\x01\x00\x02\x02\x01\x03\x00\x08\x02\x00\x00\x00\x00\x01\x00\x00"
-        ),
-        Some((9, 5))
+    check_cases::<Polynomial>(
+        &rt,
+        &[
+            // 9: the coefficient is 0, is 65,535, is 65,536
+            refused(
+                b"\x01\x00\x02\x02\x01\x03\x00\x08\x02\x00\x00\x00\x00\x01\x00\x00",
+                9,
+                5,
+            ),
+            taken(b"\x01\x00\x02\x02\x01\x03\x00\x08\x02\x00\x00\xFF\xFF\x01\x00\x00"),
+            refused(
+                b"\x01\x00\x02\x02\x01\x03\x00\x08\x02\x00\x01\x00\x00\x01\x00\x00",
+                9,
+                5,
+            ),
+            // an exponent is 4, or stands past the arity, or the exponents come again
+            refused(
+                b"\x01\x00\x02\x02\x01\x03\x00\x08\x02\x00\x00\x00\x01\x04\x00\x00",
+                9,
+                5,
+            ),
+            refused(
+                b"\x01\x00\x02\x02\x01\x03\x00\x08\x02\x00\x00\x00\x01\x01\x01\x00",
+                9,
+                5,
+            ),
+            refused(
+                b"\x01\x00\x02\x02\x01\x03\x00\x0F\x02\x00\x00\x00\x01\x01\x00\x00\x00\x00\x00\x02\x01\x00\x00",
+                9,
+                5,
+            ),
+        ],
     );
-    assert_eq!(rt;
-        refusal::<Polynomial>(
-            &rt,
-            b"\x01\x00\x02\x02\x01\x03\x00\x08\x02\x00\x00\xFF\xFF\x01\x00\x00"
-        ),
-        None
-    );
-    assert_eq!(rt;
-        refusal::<Polynomial>(
-            &rt,
-            b"\x01\x00\x02\x02\x01\x03\x00\x08\x02\x00\x01\x00\x00\x01\x00\x00"
-        ),
-        Some((9, 5))
-    );
-    // an exponent is 4, or stands past the arity, or the exponents come again
-    assert_eq!(rt;
-        refusal::<Polynomial>(
-            &rt,
-            b"\x01\x00\x02\x02\x01\x03\x00\x08\x02\x00\x00\x00\x01\x04\x00\x00"
-        ),
-        Some((9, 5))
-    );
-    assert_eq!(rt;
-        refusal::<Polynomial>(
-            &rt,
-            b"\x01\x00\x02\x02\x01\x03\x00\x08\x02\x00\x00\x00\x01\x01\x01\x00"
-        ),
-        Some((9, 5))
-    );
-    assert_eq!(rt;
-        refusal::<Polynomial>(
-            &rt,
-            b"\x01\x00\x02\x02\x01\x03\x00\x0F\x02\x00\x00\x00\x01\x01\x00\x00\x00\x00\x00\x02\x01\x00\x00"
-        ),
-        Some((9, 5))
-    );
-    // 10: f lacks its argument; h has its first only; then both
-    assert_eq!(rt;
-        refusal::<Polynomial>(
-            &rt,
-            b"\x01\x00\x02\x02\x01\x03\x00\x08\x02\x00\x00\x00\x01\x00\x00\x00"
-        ),
-        Some((10, 5))
-    );
-    assert_eq!(rt;
-        refusal::<Polynomial>(
-            &rt,
-            b"\x01\x00\x02\x04\x02\x03\x00\x08\x04\x00\x00\x00\x01\x01\x00\x00"
-        ),
-        Some((10, 5))
-    );
-    assert_eq!(rt;
-        refusal::<Polynomial>(
-            &rt,
-            b"\x01\x00\x02\x04\x02\x03\x00\x08\x04\x00\x00\x00\x01\x01\x01\x00"
-        ),
-        None
-    );
-    // the first field's 10 comes before the second field's 8
-    assert_eq!(rt;
-        refusal::<Polynomial>(
-            &rt,
-            b"\x01\x00\x02\x02\x01\x03\x00\x08\x02\x00\x00\x00\x01\x00\x00\x00\x03\x00\x08\x05\x00\x00\x00\x01\x01\x00\x00"
-        ),
-        Some((10, 5))
+}
+
+#[test]
+fn arguments_of_polynomials(rt: HostRuntime) {
+    check_cases::<Polynomial>(
+        &rt,
+        &[
+            // 10: f lacks its argument; h has its first only; then both
+            refused(
+                b"\x01\x00\x02\x02\x01\x03\x00\x08\x02\x00\x00\x00\x01\x00\x00\x00",
+                10,
+                5,
+            ),
+            refused(
+                b"\x01\x00\x02\x04\x02\x03\x00\x08\x04\x00\x00\x00\x01\x01\x00\x00",
+                10,
+                5,
+            ),
+            taken(b"\x01\x00\x02\x04\x02\x03\x00\x08\x04\x00\x00\x00\x01\x01\x01\x00"),
+            // the first field's 10 comes before the second field's 8
+            refused(
+                b"\x01\x00\x02\x02\x01\x03\x00\x08\x02\x00\x00\x00\x01\x00\x00\x00\x03\x00\x08\x05\x00\x00\x00\x01\x01\x00\x00",
+                10,
+                5,
+            ),
+        ],
     );
 }
 
 #[test]
 fn fields_of_ranks(rt: HostRuntime) {
-    assert_eq!(rt; refusal::<Path>(&rt, b""), None);
-    assert_eq!(rt; refusal::<Path>(&rt, RANKED), None);
-    assert_eq!(rt;
-        refusal::<Path>(&rt, b"\x04\x00\x02\x02\x00\x01\x00\x02\x02\x01"),
-        None
-    );
-    assert_eq!(rt;
-        refusal::<Path>(&rt, b"\x01\x00\x02\x02\x01\x04\x00\x02\x03\x01"),
-        Some((12, 5))
-    );
-    assert_eq!(rt;
-        refusal::<Path>(
-            &rt,
-            b"\x01\x00\x02\x02\x01\x04\x00\x02\x02\x01\x04\x00\x02\x02\x01"
-        ),
-        Some((12, 10))
-    );
-    assert_eq!(rt;
-        refusal::<Path>(
-            &rt,
-            b"\x01\x00\x02\x02\x01\x01\x00\x02\x03\x01\x04\x00\x02\x03\x01"
-        ),
-        Some((13, 0))
-    );
-    assert_eq!(rt;
-        refusal::<Path>(
-            &rt,
-            b"\x01\x00\x02\x02\x01\x01\x00\x02\x03\x01\x04\x00\x02\x02\x01"
-        ),
-        Some((13, 5))
+    check_cases::<Path>(
+        &rt,
+        &[
+            taken(b""),
+            taken(RANKED),
+            taken(b"\x04\x00\x02\x02\x00\x01\x00\x02\x02\x01"),
+            refused(b"\x01\x00\x02\x02\x01\x04\x00\x02\x03\x01", 12, 5),
+            refused(
+                b"\x01\x00\x02\x02\x01\x04\x00\x02\x02\x01\x04\x00\x02\x02\x01",
+                12,
+                10,
+            ),
+            refused(
+                b"\x01\x00\x02\x02\x01\x01\x00\x02\x03\x01\x04\x00\x02\x03\x01",
+                13,
+                0,
+            ),
+            refused(
+                b"\x01\x00\x02\x02\x01\x01\x00\x02\x03\x01\x04\x00\x02\x02\x01",
+                13,
+                5,
+            ),
+        ],
     );
 }
 

@@ -7,7 +7,7 @@ use judge::sealed::Sealed;
 use judge::triple::Triple;
 use orders::book_order::BookOrder;
 use orders::path::Path;
-use std::process::Abort;
+use std::test::Fail;
 
 // f f x to g x, with f of rank 2 and g of rank 1: f f f x becomes g f x or f g x
 const APART: &[u8] =
@@ -21,17 +21,25 @@ const FLUSH: &[u8] =
 const NO_OVERLAP: &[u8] =
     b"\x01\x00\x02\x03\x01\x01\x00\x02\x04\x02\x02\x00\x05\x03\x04\x80\x80\x80\x02\x00\x07\x04\x04\x80\x03\x80\x03\x80\x04\x00\x02\x03\x01\x04\x00\x02\x04\x02";
 
-// Makes the judge of the book by its ranks; says whether it is oriented.
-fn oriented<'a>(judge: &mut Judge<'a>, bytes: &'a [u8]) -> bool {
+// Makes the judge that of the book by its ranks, or answers None if it is not oriented.
+fn orient<'a>(judge: &mut Judge<'a>, bytes: &'a [u8]) -> Option<()> {
     let mut book = Book::empty();
-    if book.read(bytes).is_err() {
-        return false;
-    }
+    book.read(bytes).ok()?;
     let mut order = Path::empty();
-    if order.make(&book).is_err() {
-        return false;
-    }
-    judge.orient(&book, &order).is_ok()
+    order.make(&book).ok()?;
+    judge.orient(&book, &order).ok()
+}
+
+// The judge of the book by its ranks, or None if it is not oriented.
+fn judge_of(bytes: &[u8]) -> Option<Judge<'_>> {
+    let mut judge = Judge::empty();
+    orient(&mut judge, bytes)?;
+    Some(judge)
+}
+
+// The judge of the book, in a test that fails if it is not oriented.
+fn judging(bytes: &[u8]) -> Result<Judge<'_>, Fail> {
+    judge_of(bytes).ok_or_else(|| Fail::new("the rules do not fall"))
 }
 
 fn sealing(judge: &Judge) -> Option<SealFault> {
@@ -45,9 +53,8 @@ fn number(answer: Result<(), Refusal>) -> Option<u8> {
 }
 
 #[test]
-fn sides_that_do_not_join(rt: HostRuntime) {
-    let mut judge = Judge::empty();
-    assert!(rt; oriented(&mut judge, APART));
+fn sides_that_do_not_join(rt: HostRuntime) -> Result<(), Fail> {
+    let mut judge = judging(APART)?;
     assert_eq!(rt;
         sealing(&judge),
         Some(SealFault::NotOpened(Triple { i: 0, p: 1, j: 0 }))
@@ -58,43 +65,43 @@ fn sides_that_do_not_join(rt: HostRuntime) {
         sealing(&judge),
         Some(SealFault::LeftOpen(Triple { i: 0, p: 1, j: 0 }))
     );
+    Ok(())
 }
 
 #[test]
-fn sides_that_join(rt: HostRuntime) {
-    let mut judge = Judge::empty();
-    assert!(rt; oriented(&mut judge, FLUSH));
+fn sides_that_join(rt: HostRuntime) -> Result<(), Fail> {
+    let mut judge = judging(FLUSH)?;
     let mut page = [0u8; 1024];
     assert_eq!(rt; number(join_next(&mut judge, b"", b"", &mut page)), None);
     assert_eq!(rt; page[0], 0xFF);
     assert_eq!(rt; page[1023], 0xFF);
     assert_eq!(rt; number(settle_next(&mut judge)), Some(17));
     assert_eq!(rt; sealing(&judge), None);
+    Ok(())
 }
 
 // What the only overlap of the book says to these steps.
-fn shown(rt: &impl Abort, bytes: &[u8], outer: &[u8], inner: &[u8]) -> Option<u8> {
-    let mut judge = Judge::empty();
-    assert!(rt; oriented(&mut judge, bytes));
+fn shown(bytes: &[u8], outer: &[u8], inner: &[u8]) -> Result<Option<u8>, Fail> {
+    let mut judge = judging(bytes)?;
     let mut page = [0u8; 1024];
-    number(join_next(&mut judge, outer, inner, &mut page))
+    Ok(number(join_next(&mut judge, outer, inner, &mut page)))
 }
 
 #[test]
-fn shows_are_refused(rt: HostRuntime) {
+fn shows_are_refused(rt: HostRuntime) -> Result<(), Fail> {
     // an odd list; a step that does not match; ends that differ; one step on each side
-    assert_eq!(rt; shown(&rt, FLUSH, b"\x00", b""), Some(20));
-    assert_eq!(rt; shown(&rt, FLUSH, b"\x00\x01", b""), Some(21));
-    assert_eq!(rt; shown(&rt, FLUSH, b"\x00\x00", b""), Some(23));
-    assert_eq!(rt; shown(&rt, FLUSH, b"\x00\x00", b"\x00\x00"), None);
+    assert_eq!(rt; shown(FLUSH, b"\x00", b"")?, Some(20));
+    assert_eq!(rt; shown(FLUSH, b"\x00\x01", b"")?, Some(21));
+    assert_eq!(rt; shown(FLUSH, b"\x00\x00", b"")?, Some(23));
+    assert_eq!(rt; shown(FLUSH, b"\x00\x00", b"\x00\x00")?, None);
     // a page that is too short
-    let mut judge = Judge::empty();
-    assert!(rt; oriented(&mut judge, FLUSH));
+    let mut judge = judging(FLUSH)?;
     let mut short = [0u8; 1023];
     assert_eq!(rt;
         number(join_next(&mut judge, b"", b"", &mut short)),
         Some(31)
     );
+    Ok(())
 }
 
 #[test]
@@ -102,7 +109,7 @@ fn no_overlap_no_work(rt: HostRuntime) {
     let mut judge = Judge::empty();
     assert_eq!(rt; number(settle_next(&mut judge)), Some(17));
     assert_eq!(rt; sealing(&judge), None);
-    assert!(rt; oriented(&mut judge, NO_OVERLAP));
+    assert!(rt; orient(&mut judge, NO_OVERLAP).is_some());
     assert_eq!(rt; number(settle_next(&mut judge)), Some(17));
     assert_eq!(rt; sealing(&judge), None);
 }

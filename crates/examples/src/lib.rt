@@ -3,6 +3,8 @@
 
 #[cfg(test)]
 mod books;
+#[cfg(test)]
+mod cases;
 mod client;
 #[cfg(test)]
 mod contents;

@@ -1,5 +1,5 @@
 -- Told steps: one step, lists of them one step longer, and their ends.
-use Rattle.std.proofs.Common.{◌≡◌, ℕ, zero, suc, ◌+◌, ◌*◌, ◌<◌, ◌≤◌, List, [], ◌∷◌, ◌++◌, length, get_or, take, drop, Ok, Err, Result, sym, refl, ap, ◌∙◌, subst, subst₂, inl, append_assoc, length-append, arith}
+use Rattle.std.proofs.Common.{◌≡◌, ℕ, zero, suc, ◌+◌, ◌*◌, ◌<◌, ◌≤◌, List, [], ◌∷◌, ◌++◌, length, get_or, take, drop, Ok, Err, Result, MatchResult, IsErrAnd, sym, refl, ap, ◌∙◌, subst, subst₂, inl, append_assoc, length-append, arith}
 use Rattle.std.specs.List.{concat}
 use Rattle.std.specs.Simd.{first_chunks}
 use Rattle.std.proofs.lemmas.List.{take_at, take_more, get_or-append-add, get_or_append_left}
@@ -83,6 +83,11 @@ twos_taken [] (suc n) two h = absurd (omega (arith, h))
 
 -- ── the next step ──
 
+-- whether it is a fault
+abbrev Failed : {X E : Type 0} → Result X E → Type 0
+Failed (Ok x) = ⊥
+Failed (Err e) = Unit {0}
+
 -- a list of two is its two elements
 two_long : (xs : List ℕ) → length xs ≡ 2 → xs ≡ get_or xs 0 0 ∷ (get_or xs 1 0 ∷ [])
 two_long (x ∷ (y ∷ [])) h = refl
@@ -136,19 +141,32 @@ module _ (sig : Arities) (rs : List Rule) (steps : List (List ℕ)) (n : ℕ) (t
   leads : Leads rs (take (2 * n) (concat steps)) t so_far.0
   leads = subst (λ w. Leads rs w t so_far.0) (sym bytes_before) so_far.1
 
-  pub next_done : (w : Codes 255) → Next (Ok w) → EndsAt sig rs (concat (take (n + 1) steps)) t w
+  next_done : (w : Codes 255) → Next (Ok w) → EndsAt sig rs (concat (take (n + 1) steps)) t w
   next_done w next =
       let s = next_is (Ok w) next in
       (s.0, subst (λ w. Leads rs w t s.0) (sym one_more) (leads_more rs (concat (take n steps)) k p t so_far.0 s.0 so_far.1 s.1 s.2), s.3)
 
   -- a term stands there, so where it is not rewritten and there is room, the rule does not match
-  pub next_fails : (side : Side) (e : RewriteFault) → Next (Err e) → StepFails rs (concat steps) t side (told_fault_of e side n)
+  next_fails : (side : Side) (e : RewriteFault) → Next (Err e) → StepFails rs (concat steps) t side (told_fault_of e side n)
   next_fails side fault.NoTerm next = absurd (next_is (Err fault.NoTerm) next)
   next_fails side fault.NoMatch next =
       (refl, record { told = bytes_inside; reached = so_far.0; leads = leads; fails = subst₂ (λ k p. MatchesAt rs k p so_far.0 → ⊥) (sym rule_is) (sym place_is) (next_is (Err fault.NoMatch) next) })
   next_fails side fault.NoRoom next =
       let s = next_is (Err fault.NoRoom) next in
       (refl, record { told = bytes_inside; reached = so_far.0; leads = leads; result = s.0; step = subst₂ (λ k p. StepAt rs k p so_far.0 s.0) (sym rule_is) (sym place_is) s.1; long = s.2 })
+
+  -- the answer of a step with its fault told by the side and the step's number
+  module _ (side : Side) (m : Result (Codes 255) ShowFault) (Q : RewriteFault → ShowFault → Type 0) where
+    abbrev Mapped : Result (Codes 255) RewriteFault → Type 0
+    Mapped r = MatchResult r (λ w. m ≡ Ok w) (λ e. IsErrAnd m (Q e))
+
+    pub told_done : (r : Result (Codes 255) RewriteFault) (w : Codes 255) → Mapped r → m ≡ Ok w → Next r → EndsAt sig rs (concat (take (n + 1) steps)) t w
+    told_done (Ok v) w mapped is next = let same : v ≡ w = cc in subst (λ x. EndsAt sig rs (concat (take (n + 1) steps)) t x) same (next_done v next)
+    told_done (Err e) w mapped is next = absurd (subst (λ x. IsErrAnd x (Q e)) is mapped)
+
+    pub told_fails : (r : Result (Codes 255) RewriteFault) (f : ShowFault) → ((e : RewriteFault) (g : ShowFault) → Q e g → g ≡ told_fault_of e side n) → Mapped r → m ≡ Err f → Next r → StepFails rs (concat steps) t side f
+    told_fails (Ok v) f told mapped is next = absurd (subst Failed (sym is ∙ mapped) tt)
+    told_fails (Err e) f told mapped is next = subst (StepFails rs (concat steps) t side) (sym (told e f (subst (λ x. IsErrAnd x (Q e)) is mapped))) (next_fails side e next)
 
 -- ── telling ──
 

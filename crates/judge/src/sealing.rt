@@ -9,7 +9,8 @@ use crate::overlaps::next_overlap;
 use crate::sealed::Sealed;
 
 impl<'a> Judge<'a> {
-    // Puts the sealed book into the place if every overlap is opened, settled and joined, else says which question says the first no, and leaves the place as it is.
+    // Puts the sealed book into the place if every overlap is opened, settled and joined, else says which question says the first no, and leaves the
+    // place as it is.
     pub fn seal(&self, place: &mut Sealed<'a>) -> Result<(), SealFault>
         ensures answer { MatchResult result
             (λ _. Seals (rules_of self.now.book.tables.bytes.now) self.now.progress)

@@ -13,6 +13,7 @@ use crate::joining::Joining;
 use book::book::Book;
 use stepping::outcome::RewriteFault;
 use stepping::step::rewrite_at;
+use terms::side::RULE_VARIABLES;
 use unification::critical::CriticalPair;
 use unification::written::Written;
 
@@ -21,6 +22,9 @@ pub(crate) const PAGE: usize = 1024;
 
 // A term has at most so many bytes.
 pub(crate) const TERM: usize = 255;
+
+// The sides of an overlap have at most the variables of two rules.
+const PEAK_VARIABLES: u8 = 2 * RULE_VARIABLES;
 
 // The term rewritten by the rule at the place.
 fn told_step(
@@ -39,7 +43,7 @@ fn told_step(
     let room = &mut page[..TERM];
     let n = rewrite_at(
         book,
-        8,
+        PEAK_VARIABLES,
         term.as_slice(),
         rule as usize,
         place as usize,
@@ -75,10 +79,8 @@ fn run_steps(
 {
     let mut term = *first;
     for (step, &[rule, place]) in steps.iter().enumerate() {
-        term = match told_step(book, rule, place, &term, page) {
-            Ok(next) => next,
-            Err(fault) => return Err(told_fault(fault, side, step)),
-        };
+        let answer = told_step(book, rule, place, &term, page);
+        term = answer.map_err(|fault| told_fault(fault, side, step))?;
     }
     Ok(term)
 }

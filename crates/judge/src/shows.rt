@@ -29,7 +29,8 @@ impl<'a> Judge<'a> {
         check_joining(&self.book, &pair, &joining, page)
     }
 
-    // Checks one list of steps from the outer side of the overlap that is out and one from the inner side: whether they lead to one term. Says which question says the first no. All bytes of the page are FF after it.
+    // Checks one list of steps from the outer side of the overlap that is out and one from the inner side: whether they lead to one term. Says which
+    // question says the first no. All bytes of the page are FF after it.
     pub fn show(
         &mut self,
         ticket: &Ticket,

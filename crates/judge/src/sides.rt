@@ -34,7 +34,8 @@ impl<'a> Judge<'a> {
         }
     }
 
-    // Writes the outer and the inner side of the overlap that is out to the front of the buffers and answers both lengths, or says which question says the first no, and leaves both buffers as they are.
+    // Writes the outer and the inner side of the overlap that is out to the front of the buffers and answers both lengths, or says which question says the
+    // first no, and leaves both buffers as they are.
     pub fn sides(
         &self,
         ticket: &Ticket,

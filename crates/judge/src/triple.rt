@@ -6,7 +6,7 @@ ghost use Rattle.judge.specs.Pairs.{triple_number, Ranged};
 const MOST: usize = 32;
 
 // So many triples begin with one rule.
-pub(crate) const TRIPLES: usize = 1024;
+pub(crate) const TRIPLES: usize = MOST * MOST;
 
 // The rules i and j overlap at the place p of left side i.
 #[derive(Clone, Copy, PartialEq, Eq, Debug)]

@@ -20,9 +20,6 @@ says_no P n = ((λ e. absurd (false≢true e)), λ p. absurd (n p))
 pub says_yes : (P : Type 0) → P → Decides true P
 says_yes P p = ((λ e. p), λ q. refl)
 
-pub no_of : (r : Bool) (P : Type 0) → r ≡ false → Decides r P → P → ⊥
-no_of r P e d = not_from_Decides r d e
-
 -- `==` on two slices says whether the bytes are the same
 pub same_slices : (s t : List ℕ) (r : Bool) → r ≡ pointwise eqb s t → Decides r (s ≡ t)
 same_slices s t r e = slice_eq-Decides Decides-eqb s t r e

@@ -7,7 +7,7 @@ ghost use Rattle.book.specs.declared.book.Book.{Book};
 
 use crate::order::Order;
 use book::book::Book;
-use book::side::is_side;
+use terms::side::Sides;
 
 // Why a book gives no order: the question that says no, and the offset of the field that it says no to.
 pub trait FigureFault {
@@ -60,5 +60,6 @@ pub trait BookOrder<'a>: Order + Copy {
 pub(crate) fn are_sides(book: &Book, left: &[u8], right: &[u8]) -> bool
     ensures { Decides result (IsSide (signature_of book.now.tables.bytes.now) left.now × IsSide (signature_of book.now.tables.bytes.now) right.now) }
 {
-    is_side(book, left) && is_side(book, right)
+    let sides = Sides { left, right };
+    sides.fit(book)
 }

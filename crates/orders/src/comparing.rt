@@ -8,9 +8,7 @@ ghost use Rattle.orders.specs.Ranks.{rank_of};
 
 use crate::path::Path;
 use terms::prefix::{VARIABLE, first_term_length};
-
-// The variables of rules.
-const VARIABLES: u8 = 4;
+use terms::side::RULE_VARIABLES;
 
 impl<'a> Path<'a> {
     // The rank of a code, and 0 if it has none.
@@ -27,10 +25,7 @@ impl<'a> Path<'a> {
     fn higher(&self, f: u8, g: u8) -> bool
         ensures { Decides result ((g < 128) × (rank_of self.now.book.tables.bytes.now g < rank_of self.now.book.tables.bytes.now f)) }
     {
-        if g >= VARIABLE {
-            return false;
-        }
-        self.rank(f) > self.rank(g)
+        g < VARIABLE && self.rank(f) > self.rank(g)
     }
 
     // The length of the first of the terms that stand one after the other in the bytes, or None if there is none.
@@ -38,9 +33,10 @@ impl<'a> Path<'a> {
         ensures inside { IfSome result (λ n. (1 ≤ n) × (n ≤ length bytes.now)) }
         ensures first { FirstTerm (signature_of self.now.book.tables.bytes.now) 4 bytes.now result }
     {
-        first_term_length(&self.book, VARIABLES, bytes)
+        first_term_length(&self.book, RULE_VARIABLES, bytes)
     }
 
+    // Whether s is greater than t.
     #[cycle(path_order)]
     pub(crate) fn greater(&self, s: &[u8], t: &[u8]) -> bool
         ensures { (a b : Term)
@@ -48,26 +44,25 @@ impl<'a> Path<'a> {
             → Reads (signature_of self.now.book.tables.bytes.now) 4 t.now b
             → Decides result (Greater (rank_of self.now.book.tables.bytes.now) a b) }
     {
-        if s.is_empty() {
+        let [f, ss @ ..] = s else {
+            return false;
+        };
+        let [g, ts @ ..] = t else {
+            return false;
+        };
+        if *f >= VARIABLE {
             return false;
         }
-        if t.is_empty() {
-            return false;
-        }
-        let f = s[0];
-        let g = t[0];
-        if f >= VARIABLE {
-            return false;
-        }
-        if f == g {
+        if *f == *g {
             return self.greater_by_arguments(s, t, 1);
         }
-        if self.higher(f, g) {
-            return self.greater_than_all(s, &t[1..]);
+        if self.higher(*f, *g) {
+            return self.greater_than_all(s, ts);
         }
-        self.some_at_least(&s[1..], t)
+        self.some_at_least(ss, t)
     }
 
+    // Whether s is t or greater.
     #[cycle(path_order)]
     fn greater_or_same(&self, s: &[u8], t: &[u8]) -> bool
         ensures { (a b : Term)
@@ -75,10 +70,7 @@ impl<'a> Path<'a> {
             → Reads (signature_of self.now.book.tables.bytes.now) 4 t.now b
             → Decides result ((a ≡ b) ⊎ Greater (rank_of self.now.book.tables.bytes.now) a b) }
     {
-        if s == t {
-            return true;
-        }
-        self.greater(s, t)
+        s == t || self.greater(s, t)
     }
 
     // Whether one of the terms that stand one after the other in ss is t or greater.

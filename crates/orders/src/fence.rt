@@ -28,13 +28,10 @@ fn keeps_variables(left: &[u8], right: &[u8]) -> bool
 fn is_proper(left: &[u8], right: &[u8]) -> bool
     ensures { result ≡ is_proper left.now right.now }
 {
-    let Some(head) = left.first() else {
-        return false;
-    };
-    *head < VARIABLE && keeps_variables(left, right)
+    left.first().is_some_and(|head| *head < VARIABLE) && keeps_variables(left, right)
 }
 
-// An order that grades a pair 9 that can be no rule's, and else as the order beneath.
+// An order that grades a malformed pair 8 first, then a pair that can be no rule's 9, and any other as the order beneath.
 #[derive(Drop)]
 pub struct Fence<'a, O> {
     beneath: &'a O,

@@ -19,18 +19,12 @@ fn exponent_fits(arity: u8, i: u8, exponent: u8) -> bool
     exponent <= EXPONENT_LIMIT && (i < arity || exponent == 0)
 }
 
-// Whether the exponents are so.
+// Whether no exponent is greater than the limit, and those past the arity are 0.
 fn exponents_fit(arity: u8, monomial: &Monomial) -> bool
     ensures { Decides result (((i : ℕ) → exponent i (meant monomial.now).exponents ≤ 3) × ((i : ℕ) → arity ≤ i → exponent i (meant monomial.now).exponents ≡ 0)) }
 {
     let [e0, e1, e2] = monomial.exponents;
-    if !exponent_fits(arity, 0, e0) {
-        return false;
-    }
-    if !exponent_fits(arity, 1, e1) {
-        return false;
-    }
-    exponent_fits(arity, 2, e2)
+    exponent_fits(arity, 0, e0) && exponent_fits(arity, 1, e1) && exponent_fits(arity, 2, e2)
 }
 
 // Whether the factor is from 1 to the limit, and the exponents fit.
@@ -87,10 +81,5 @@ pub(crate) fn has_arguments(arity: u8, monomials: Monomials) -> bool
     requires { arity ≤ 3 }
     ensures { Decides result (HasArguments arity (polynomial_from monomials.entry.bytes.now)) }
 {
-    for i in 0..arity {
-        if !has_argument(monomials, i) {
-            return false;
-        }
-    }
-    true
+    (0..arity).all(|i| has_argument(monomials, i))
 }

@@ -7,7 +7,8 @@ ghost use Rattle.order_theory.specs.Laws.{OrderLaws};
 // The grade of a pair that is no pair of sides of rules.
 pub const MALFORMED: u8 = 8;
 
-// A reduction order on the terms of a signature that grades pairs of byte strings: 0 says that the left is over the right, and 8 that one of them is no side of a rule.
+// A reduction order on the terms of a signature that grades pairs of byte strings: 0 says that the left is over the right, and 8 that one of them is no side
+// of a rule.
 pub trait Order {
     // The number of the order's kind.
     const KIND: u8;

@@ -71,16 +71,18 @@ impl<'a> BookOrder<'a> for Polynomial<'a> {
     ghost grade_is = { λ p. refl };
 }
 
-impl<'a> Symbols for Polynomial<'a> {
-    ghost signature = { λ p. signature_of p.book.tables.bytes.now };
-
-    ghost interpretation = { λ p. interpretation_of p.book.tables.bytes.now };
-
-    ghost proper = { λ p. proper_held (signature_of p.book.tables.bytes.now) (interpretation_of p.book.tables.bytes.now) p.proper };
+impl<'a> Signature for Polynomial<'a> {
+    ghost arities = { λ p. signature_of p.book.tables.bytes.now };
 
     fn arity(&self, code: u8) -> Option<u8> {
         self.book.arity(code)
     }
+}
+
+impl<'a> Symbols for Polynomial<'a> {
+    ghost interpretation = { λ p. interpretation_of p.book.tables.bytes.now };
+
+    ghost proper = { λ p. proper_held (signature_of p.book.tables.bytes.now) (interpretation_of p.book.tables.bytes.now) p.proper };
 
     // The field begins four bytes before its monomials, and has the length of its value, with the code, in the second and third byte.
     fn monomials(&self, code: u8) -> &[u8] {

@@ -65,10 +65,9 @@ module _ (sig : Arities) (interpretation : Interpretation) (proper : Proper sig 
   pub shifted_degrees : TermRoom interpretation t → (i : ℕ) → i < 4 → degree i (shifted interpretation t) ≤ 3
   shifted_degrees fits i l = let d = degree_shifted sig 4 interpretation proper i t sorted in let f = fits.degrees i l in omega arith
 
-module _ (sig : Arities) (interpretation : Interpretation) (proper : Proper sig interpretation) (s t : Term) (sorted_s : WellSorted sig 4 s) (sorted_t : WellSorted sig 4 t)
-    (a b c d : Bool) (a_is : a ≡ steep (polynomial_of interpretation s)) (b_is : b ≡ steep (polynomial_of interpretation t))
-    (c_is : c ≡ large (polynomial_of interpretation s)) (d_is : d ≡ large (polynomial_of interpretation t))
-    (gentle : (a || b) ≡ false) (small : (c || d) ≡ false) where
+module _ (interpretation : Interpretation) (s t : Term)
+    (steep_s : steep (polynomial_of interpretation s) ≡ false) (steep_t : steep (polynomial_of interpretation t) ≡ false)
+    (large_s : large (polynomial_of interpretation s) ≡ false) (large_t : large (polynomial_of interpretation t) ≡ false) where
   -- what is left of the grade is read off the tables
   pub graded : (n o : Bool) → any_negative (shifted interpretation s) (shifted interpretation t) ≡ n → positive_constant (shifted interpretation s) (shifted interpretation t) ≡ o →
       ◌≡◌ {A = ℕ} (cond n 1 (cond o 0 1)) (grade interpretation s t)
@@ -78,6 +77,6 @@ module _ (sig : Arities) (interpretation : Interpretation) (proper : Proper sig 
       let p' : Polynomial = shifted interpretation s in
       let q' : Polynomial = shifted interpretation t in
       let rest : ℕ = cond (any_negative p' q') 1 (cond (positive_constant p' q') 0 1) in
-      let x : (steep p || steep q) ≡ false = ap₂ ◌||◌ (sym a_is) (sym b_is) ∙ gentle in
-      let y : (large p || large q) ≡ false = ap₂ ◌||◌ (sym c_is) (sym d_is) ∙ small in
+      let x : (steep p || steep q) ≡ false = rw (steep_s, steep_t) refl in
+      let y : (large p || large q) ≡ false = rw (large_s, large_t) refl in
       sym (cond-false (steep p || steep q) 3 (cond (large p || large q) 2 rest) x ∙ cond-false (large p || large q) 2 rest y ∙ ap₂ (λ v w. cond v 1 (cond w 0 1)) n_is o_is)

@@ -1,5 +1,5 @@
 -- Numbers that are cut off at a limit: sums and products may be cut off on the way, and nothing is lost.
-use Rattle.std.proofs.Common.{◌≡◌, ℕ, zero, suc, ◌+◌, ◌*◌, ◌^◌, ◌<◌, ◌≤◌, max, List, [], ◌∷◌, get_or, sym, refl, ap, ◌∙◌, inl, inr, le_refl, mul_comm, mul-le-mul, pow-suc, mul-zero, mul-one, arith}
+use Rattle.std.proofs.Common.{◌≡◌, ℕ, zero, suc, ◌+◌, ◌*◌, ◌^◌, ◌<◌, ◌≤◌, min, max, List, [], ◌∷◌, get_or, sym, refl, ap, ◌∙◌, inl, inr, le_refl, mul_comm, mul-le-mul, pow-suc, mul-zero, mul-one, arith}
 use native.Mathlib.Nat.{pow-zero}
 use Rattle.std.proofs.lemmas.Bool.{cases_lt, cases_eq}
 use Rattle.polynomials.specs.Polynomial.{Exponents, Polynomial, power_product, value, greatest, dot}
@@ -42,6 +42,11 @@ module _ (limit : ℕ) where
             ]
       ]
 
+  -- a number may be cut off at a larger limit before
+  pub cut_min : (n more : ℕ) → limit ≤ more → cut_off limit (min n more) ≡ cut_off limit n
+  unfolding cut_off
+  cut_min n more h = omega arith
+
   -- so numbers that are the same when cut off have such sums, products, powers and maxima
   pub mul_alike : (x x' y y' : ℕ) → cut_off limit x ≡ cut_off limit x' → cut_off limit y ≡ cut_off limit y' → cut_off limit (x * y) ≡ cut_off limit (x' * y')
   mul_alike x x' y y' p q =
@@ -59,6 +64,11 @@ module _ (limit : ℕ) where
   pub pow_alike : (x x' n : ℕ) → cut_off limit x ≡ cut_off limit x' → cut_off limit (x ^ n) ≡ cut_off limit (x' ^ n)
   pow_alike x x' zero p = ap (cut_off limit) (pow-zero x ∙ sym (pow-zero x'))
   pow_alike x x' (suc n) p = ap (cut_off limit) (pow-suc x n) ∙ mul_alike (x ^ n) (x' ^ n) x x' (pow_alike x x' n p) p ∙ sym (ap (cut_off limit) (pow-suc x' n))
+
+  -- so a power, and a multiple of it, may be cut off at a larger limit before
+  pub cut_multiple : (start base n more : ℕ) → limit ≤ more → cut_off limit (min (start * min (base ^ n) more) more) ≡ cut_off limit (start * base ^ n)
+  cut_multiple start base n more h =
+      cut_min (start * min (base ^ n) more) more h ∙ mul_alike start start (min (base ^ n) more) (base ^ n) refl (cut_min (base ^ n) more h)
 
   -- and so have polynomials the same values, and the same degrees, at such numbers
   module _ (ns ms : List ℕ) (alike : (i : ℕ) → cut_off limit (get_or ns i 0) ≡ cut_off limit (get_or ms i 0)) where

@@ -51,17 +51,15 @@ pub(crate) fn evaluate<'a, S: Symbols, A: Algebra>(
     algebra: &A,
     bytes: &'a [u8],
 ) -> (A::Value, &'a [u8])
-    requires { (t : Term) × Begins (S.Symbols.signature symbols.now) 4 bytes.now t × Throughout (A.Algebra.fits algebra.now (S.Symbols.interpretation symbols.now)) t }
-    ensures { (t : Term) (begins : Begins (S.Symbols.signature symbols.now) 4 bytes.now t) → Throughout (A.Algebra.fits algebra.now (S.Symbols.interpretation symbols.now)) t → A.Algebra.worth algebra.now (S.Symbols.interpretation symbols.now) t result.0 × (result.1.now ≡ begins.rest) }
+    requires { (t : Term) × Begins (S.Signature.arities symbols.now) 4 bytes.now t × Throughout (A.Algebra.fits algebra.now (S.Symbols.interpretation symbols.now)) t }
+    ensures { (t : Term) (begins : Begins (S.Signature.arities symbols.now) 4 bytes.now t) → Throughout (A.Algebra.fits algebra.now (S.Symbols.interpretation symbols.now)) t → A.Algebra.worth algebra.now (S.Symbols.interpretation symbols.now) t result.0 × (result.1.now ≡ begins.rest) }
 {
     let code = bytes[0];
     let mut rest = &bytes[1..];
     if code >= VARIABLE {
         return (algebra.variable(code), rest);
     }
-    let Some(arity) = symbols.arity(code) else {
-        unreachable!();
-    };
+    let arity = symbols.arity(code).unwrap();
     let monomials = symbols.monomials(code);
     let mut arguments = algebra.no_arguments();
     for i in 0..arity as usize {

@@ -7,7 +7,7 @@ use crate::symbols::Symbols;
 
 // The grade of two terms with the first four variables as a number, or None if the bytes are not two such terms.
 pub fn grade<S: Symbols>(symbols: &S, left: &[u8], right: &[u8]) -> Option<u8>
-    ensures { Graded (S.Symbols.signature symbols.now) (S.Symbols.interpretation symbols.now) left.now right.now result }
+    ensures { Graded (S.Signature.arities symbols.now) (S.Symbols.interpretation symbols.now) left.now right.now result }
 {
     let left = PrefixTerm::new(symbols, left)?;
     let right = PrefixTerm::new(symbols, right)?;

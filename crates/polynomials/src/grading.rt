@@ -18,6 +18,7 @@ pub(crate) enum Grade {
 }
 
 impl Grade {
+    // The grade's number, from 0 to 3.
     pub(crate) fn number(self) -> u8
         ensures { result ≡ number_of self }
     {
@@ -30,25 +31,23 @@ impl Grade {
     }
 }
 
+// The grade of two terms: TooSteep comes first, then TooLarge, and only then are coefficients compared.
 pub(crate) fn grade_terms<'a, S: Symbols>(
     left: &PrefixTerm<'a, S>,
     right: &PrefixTerm<'a, S>,
 ) -> Grade
     requires { right.now.symbols.now ≡ left.now.symbols.now }
-    ensures { (s t : Term) → Reads (S.Symbols.signature left.now.symbols.now) 4 left.now.bytes.now s → Reads (S.Symbols.signature left.now.symbols.now) 4 right.now.bytes.now t → number_of result ≡ grade (S.Symbols.interpretation left.now.symbols.now) s t }
+    ensures { (s t : Term) → Reads (S.Signature.arities left.now.symbols.now) 4 left.now.bytes.now s → Reads (S.Signature.arities left.now.symbols.now) 4 right.now.bytes.now t → number_of result ≡ grade (S.Symbols.interpretation left.now.symbols.now) s t }
 {
-    if left.is_steep() | right.is_steep() {
+    if left.is_steep() || right.is_steep() {
         return Grade::TooSteep;
     }
-    if left.is_large() | right.is_large() {
+    if left.is_large() || right.is_large() {
         return Grade::TooLarge;
     }
     let p = left.shifted_coefficients();
     let q = right.shifted_coefficients();
-    if p.any_negative(&q) {
-        return Grade::NotOver;
-    }
-    if p.positive_constant(&q) {
+    if !p.any_negative(&q) && p.positive_constant(&q) {
         Grade::Over
     } else {
         Grade::NotOver

@@ -10,8 +10,9 @@ use crate::monomial::{Monomial, Monomials};
 use terms::prefix::VARIABLE;
 
 // Where values are cut off: the first that is too large.
-const LIMIT: u64 = 2147483648;
+pub(crate) const LIMIT: u64 = 2147483648;
 
+// The number, or the limit where it is larger.
 #[tactic(auto, unfolding(crate::specs::Coding::cut_off))]
 fn cut(n: u64) -> u64
     ensures { result ≡ cut_off 2147483648 n }
@@ -19,16 +20,11 @@ fn cut(n: u64) -> u64
     n.min(LIMIT)
 }
 
-// `start` times a power of `base`.
+// `start` times a power of `base`, cut off.
 fn times_power(start: u64, base: u64, exponent: u8) -> u64
-    requires { (start < 2 ^ 32) × (base ≤ 2147483648) }
     ensures { result ≡ cut_off 2147483648 (start * base ^ exponent) }
 {
-    let mut r = cut(start);
-    for _k in 0..exponent {
-        r = cut(r * base);
-    }
-    r
+    cut(start.saturating_mul(base.saturating_pow(exponent as u32)))
 }
 
 // The measures of a symbol's three arguments, cut off; 0 for one that is missing.
@@ -50,9 +46,7 @@ impl Measures {
         requires small { number ≤ 2147483648 }
         ensures { self.new.numbers ≡ slice_set self.old.numbers i number }
     {
-        let mut numbers = self.numbers;
-        numbers[i] = number;
-        *self = Measures { numbers };
+        self.numbers[i] = number;
     }
 }
 
@@ -99,7 +93,7 @@ fn symbol_degree(monomials: &[u8], args: &Measures) -> u64
 
 // The value with every variable at 2.
 #[derive(Clone, Copy)]
-pub(crate) struct AtTwo {}
+pub(crate) struct AtTwo;
 
 impl Algebra for AtTwo {
     type Value = u64;

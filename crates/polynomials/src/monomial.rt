@@ -18,6 +18,7 @@ pub struct Monomials<'a> {
 }
 
 impl<'a> Monomials<'a> {
+    // All the monomials of the bytes.
     pub fn new(bytes: &'a [u8]) -> Monomials<'a>
         ensures { result.bytes.now ≡ bytes.now }
     {

@@ -8,43 +8,29 @@ ghost use Rattle.polynomials.specs.Cells.{Holds, TermRoom};
 ghost use Rattle.polynomials.specs.Grade.{steep, large};
 
 use crate::algebra::evaluate;
-use crate::measure::{AtTwo, DegreeIn};
+use crate::measure::{AtTwo, DegreeIn, LIMIT};
 use crate::shifted::ShiftedCoefficients;
 use crate::symbols::Symbols;
 use crate::table::Table;
-use terms::prefix::{Signature, is_term};
+use terms::prefix::is_term;
 
 // The variables that polynomials have.
 const VARIABLES: u8 = 4;
-
-// The arities of symbols.
-#[derive(Drop)]
-struct ArityOf<'a, S> {
-    symbols: &'a S,
-}
-
-impl<'a, S: Symbols> Signature for ArityOf<'a, S> {
-    ghost arities = { λ s. S.Symbols.signature s.symbols.now };
-
-    fn arity(&self, code: u8) -> Option<u8> {
-        self.symbols.arity(code)
-    }
-}
 
 // The bytes of a term with the first four variables.
 #[derive(Drop)]
 pub(crate) struct PrefixTerm<'a, S: Symbols> {
     symbols: &'a S,
     bytes: &'a [u8],
-    ghost is_one: { ∥ IsTerm (S.Symbols.signature symbols.now) 4 bytes.now ∥₁ },
+    ghost is_one: { ∥ IsTerm (S.Signature.arities symbols.now) 4 bytes.now ∥₁ },
 }
 
 impl<'a, S: Symbols> PrefixTerm<'a, S> {
     // The term, or None if the bytes are no such term.
     pub(crate) fn new(symbols: &'a S, bytes: &'a [u8]) -> Option<PrefixTerm<'a, S>>
-        ensures { MatchOption result (IsTerm (S.Symbols.signature symbols.now) 4 bytes.now → ⊥) (λ t. (t.symbols.now ≡ symbols.now) × (t.bytes.now ≡ bytes.now)) }
+        ensures { MatchOption result (IsTerm (S.Signature.arities symbols.now) 4 bytes.now → ⊥) (λ t. (t.symbols.now ≡ symbols.now) × (t.bytes.now ≡ bytes.now)) }
     {
-        if !is_term(&ArityOf { symbols }, VARIABLES, bytes) {
+        if !is_term(symbols, VARIABLES, bytes) {
             return None;
         }
         Some(PrefixTerm { symbols, bytes })
@@ -52,7 +38,7 @@ impl<'a, S: Symbols> PrefixTerm<'a, S> {
 
     // Whether the degree in a variable is above 3.
     fn is_steep_in(&self, variable: u8) -> bool
-        ensures { (t : Term) → Reads (S.Symbols.signature self.now.symbols.now) 4 self.now.bytes.now t → result ≡ nat_lt 3 (degree variable (polynomial_of (S.Symbols.interpretation self.now.symbols.now) t)) }
+        ensures { (t : Term) → Reads (S.Signature.arities self.now.symbols.now) 4 self.now.bytes.now t → result ≡ nat_lt 3 (degree variable (polynomial_of (S.Symbols.interpretation self.now.symbols.now) t)) }
     {
         let (degree, _) = evaluate(self.symbols, &DegreeIn { variable }, self.bytes);
         degree > 3
@@ -60,25 +46,25 @@ impl<'a, S: Symbols> PrefixTerm<'a, S> {
 
     // Whether some variable has an exponent above 3.
     pub(crate) fn is_steep(&self) -> bool
-        ensures { (t : Term) → Reads (S.Symbols.signature self.now.symbols.now) 4 self.now.bytes.now t → result ≡ steep (polynomial_of (S.Symbols.interpretation self.now.symbols.now) t) }
+        ensures { (t : Term) → Reads (S.Signature.arities self.now.symbols.now) 4 self.now.bytes.now t → result ≡ steep (polynomial_of (S.Symbols.interpretation self.now.symbols.now) t) }
     {
         (0..VARIABLES).any(|variable| self.is_steep_in(variable))
     }
 
     // Whether the value with every variable at 2 is above 2147483647.
     pub(crate) fn is_large(&self) -> bool
-        ensures { (t : Term) → Reads (S.Symbols.signature self.now.symbols.now) 4 self.now.bytes.now t → result ≡ large (polynomial_of (S.Symbols.interpretation self.now.symbols.now) t) }
+        ensures { (t : Term) → Reads (S.Signature.arities self.now.symbols.now) 4 self.now.bytes.now t → result ≡ large (polynomial_of (S.Symbols.interpretation self.now.symbols.now) t) }
     {
-        let (value, _) = evaluate(self.symbols, &AtTwo {}, self.bytes);
-        value > 2147483647
+        let (value, _) = evaluate(self.symbols, &AtTwo, self.bytes);
+        value >= LIMIT
     }
 
     // The shifted coefficients, for which there is room in a table.
     pub(crate) fn shifted_coefficients(&self) -> Table
-        requires { (t : Term) → Reads (S.Symbols.signature self.now.symbols.now) 4 self.now.bytes.now t → TermRoom (S.Symbols.interpretation self.now.symbols.now) t }
-        ensures { (t : Term) → Reads (S.Symbols.signature self.now.symbols.now) 4 self.now.bytes.now t → Holds result.cells (shifted (S.Symbols.interpretation self.now.symbols.now) t) }
+        requires { (t : Term) → Reads (S.Signature.arities self.now.symbols.now) 4 self.now.bytes.now t → TermRoom (S.Symbols.interpretation self.now.symbols.now) t }
+        ensures { (t : Term) → Reads (S.Signature.arities self.now.symbols.now) 4 self.now.bytes.now t → Holds result.cells (shifted (S.Symbols.interpretation self.now.symbols.now) t) }
     {
-        let (table, _) = evaluate(self.symbols, &ShiftedCoefficients {}, self.bytes);
+        let (table, _) = evaluate(self.symbols, &ShiftedCoefficients, self.bytes);
         table
     }
 }

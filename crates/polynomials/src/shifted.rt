@@ -40,7 +40,7 @@ fn compose_tables(monomials: &[u8], tables: &[Table; 3]) -> Table
 
 // The shifted coefficients.
 #[derive(Clone, Copy)]
-pub(crate) struct ShiftedCoefficients {}
+pub(crate) struct ShiftedCoefficients;
 
 impl Algebra for ShiftedCoefficients {
     type Value = Table;

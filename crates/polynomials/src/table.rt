@@ -26,12 +26,14 @@ fn variable_cell(x: u8) -> usize
 }
 
 impl Table {
+    // The table of the polynomial 0.
     pub(crate) fn zero() -> Table
         ensures { Holds result.cells [] }
     {
         Table { cells: [0u64; 256] }
     }
 
+    // The table of a constant polynomial.
     pub(crate) fn constant(c: u64) -> Table
         ensures { Holds result.cells (constant c) }
     {

@@ -64,7 +64,7 @@ module _ (s : Subject) (k p : ℕ) where
       not_matched none m =
           subst (MatchAnswer (signature_on s) s.variables (rule_at (rules_on s) k).left (part (term_on s) p)) none matched_there m.matches.instance (sym m.matches.is)
 
-      pub rule_matches : (found : Match) (rest : Bor (List ℕ)) → rest.now ≡ right → o ≡ Some found → RuleMatches s k p (record { substitution = found.substitution; len = found.len; right = rest })
+      pub rule_matches : (found : Match) (rest : Bor (List ℕ)) → rest.now ≡ right → o ≡ Some found → RuleMatches s k p (record { found = found; right = rest })
       rule_matches found rest e some = record {
         is_rule = sides.listed;
         inside = inside;
@@ -77,14 +77,14 @@ module _ (s : Subject) (k p : ℕ) where
 
 -- ── the rule matches ──
 
-module _ (s : Subject) (k p : ℕ) (found : RuleMatch) (by : RuleMatches s k p found) where
+module _ (s : Subject) (k p : ℕ) (r : RuleMatch) (by : RuleMatches s k p r) where
   abbrev vars : ℕ
   vars = s.variables
 
   abbrev t : Term
   t = term_on s
 
-  m : Matched (signature_on s) s.variables (rule_at (rules_on s) k).left (part (term_on s) p) found.substitution.parts found.len
+  m : Matched (signature_on s) s.variables (rule_at (rules_on s) k).left (part (term_on s) p) r.found.substitution.parts r.found.len
   m = by.matched
 
   part_begins_there : Begins (signature_on s) vars (drop p s.term.now) (part t p)
@@ -93,7 +93,7 @@ module _ (s : Subject) (k p : ℕ) (found : RuleMatch) (by : RuleMatches s k p f
   pub matched : Matches (rules_on s) k (part t p)
   matched = record { is_rule = by.is_rule; instance = m.instance; is = sym m.is }
 
-  pub can_write : p + found.len ≤ length s.term.now
+  pub can_write : p + r.found.len ≤ length s.term.now
   can_write = omega (arith, m.long, begins_within (signature_on s) vars (drop p s.term.now) (part t p) part_begins_there, length-drop p s.term.now)
 
   -- the new term
@@ -107,7 +107,7 @@ module _ (s : Subject) (k p : ℕ) (found : RuleMatch) (by : RuleMatches s k p f
   term_is = sym (parts_agree_with_contexts t p there).0 ∙ sym m.is
 
   free : (x : ℕ) → (Occurs x (rule_at (rules_on s) k).left → ⊥) → m.instance x ≡ var x
-  free x d = elim (bound_or_free (bound_to found.substitution.parts x)) [ inl b ↦ absurd (d (m.occurs x b.0 b.1)) | inr e ↦ m.stays x e ]
+  free x d = elim (bound_or_free (bound_to r.found.substitution.parts x)) [ inl b ↦ absurd (d (m.occurs x b.0 b.1)) | inr e ↦ m.stays x e ]
 
   one_step : OneStep (rules_on s) k p t result
   unfolding result
@@ -122,7 +122,7 @@ module _ (s : Subject) (k p : ℕ) (found : RuleMatch) (by : RuleMatches s k p f
 
   -- each variable of the right side becomes a term of the signature
   sorted_instance : (4 ≤ vars) ⊎ NothingNew (rules_on s) k → (x : ℕ) → Occurs x (rule_at (rules_on s) k).right → WellSorted (signature_on s) vars (m.instance x)
-  sorted_instance v x o = elim (bound_or_free (bound_to found.substitution.parts x)) [
+  sorted_instance v x o = elim (bound_or_free (bound_to r.found.substitution.parts x)) [
     | inl b ↦ (m.agrees x b.0 b.1).sorted
     | inr e ↦ elim v [
       | inl four ↦
@@ -143,13 +143,13 @@ module _ (s : Subject) (k p : ℕ) (found : RuleMatch) (by : RuleMatches s k p f
 
   -- its bytes
   abbrev new_bytes : List ℕ
-  new_bytes = replaced s.term.now p found.len (instance_of found)
+  new_bytes = replaced s.term.now p r.found.len (instance_of r)
 
   result_bytes : new_bytes ≡ prefix result
   unfolding result
   result_bytes =
-      ap (replaced s.term.now p found.len) (instance_is (signature_on s) vars found.substitution.parts m.instance m.agrees m.stays found.right.now (rule_at (rules_on s) k).right by.right_reads)
-      ∙ replaced_is s.term.now p found.len there.context there.term (sub m.instance (rule_at (rules_on s) k).right) (ap prefix (sym there.splits) ∙ s.reads.form) there.at (ap size (term_is ∙ m.is) ∙ sym m.long)
+      ap (replaced s.term.now p r.found.len) (instance_is (signature_on s) vars r.found.substitution.parts m.instance m.agrees m.stays r.right.now (rule_at (rules_on s) k).right by.right_reads)
+      ∙ replaced_is s.term.now p r.found.len there.context there.term (sub m.instance (rule_at (rules_on s) k).right) (ap prefix (sym there.splits) ∙ s.reads.form) there.at (ap size (term_is ∙ m.is) ∙ sym m.long)
 
   result_length : length new_bytes ≡ size result
   result_length = ap length result_bytes ∙ prefix_length result

@@ -1,6 +1,6 @@
 -- Looking for the lowest rule that matches at a place, and for the innermost place, from left to right.
 use Rattle.std.proofs.Common.{◌≡◌, ℕ, ◌+◌, ◌-◌, ◌<◌, ◌≤◌, List, length, Some, None, Option, Ok, below_more, sym, ap, ◌∙◌, subst, inl, inr, arith}
-use Rattle.std.specs.Option.{option_map}
+use Rattle.std.specs.Option.{option_map, option_or}
 use Rattle.std.proofs.lemmas.Bool.{cases_lt, cases_order}
 use Rattle.terms.specs.Term.{Term, Rule, size}
 use Rattle.terms.specs.Prefix.{Arities, Reads}
@@ -46,7 +46,7 @@ module _ (rs : List Rule) (t : Term) where
   pub nothing_there : (p : ℕ) → FoundThere rs t p None → MatchedAt rs t p → ⊥
   nothing_there p f m = f m.rule m.matches
 
-  pub search_past : (p : ℕ) (found : Option Candidate) → Searched p found → FoundThere rs t p None → Searched (p + 1) found
+  search_past : (p : ℕ) (found : Option Candidate) → Searched p found → FoundThere rs t p None → Searched (p + 1) found
   search_past p None s f = below_more _ _ s (nothing_there p f)
   search_past p (Some c) s f = record {
     before = omega (arith, s.before);
@@ -64,7 +64,7 @@ module _ (rs : List Rule) (t : Term) where
     | inr d ↦ elim d [ inl l ↦ s.least q l i | inr l ↦ s.none_behind q l h i.matched ]
   ]
 
-  pub search_new : (p : ℕ) (found : Option Candidate) (c : Candidate) → p < size t → Searched p found → NotEnded p found → LowestAt rs t p c → Searched (p + 1) (Some c)
+  search_new : (p : ℕ) (found : Option Candidate) (c : Candidate) → p < size t → Searched p found → NotEnded p found → LowestAt rs t p c → Searched (p + 1) (Some c)
   search_new p found c inside s w f =
       let m : MatchedAt rs t p = record { inside = inside; rule = c.redex.rule; matches = f.matches } in
       record {
@@ -74,6 +74,11 @@ module _ (rs : List Rule) (t : Term) where
         none_behind = λ q a h x. omega (arith, f.place_is);
         least = λ q h i. none_before p found s w m q (omega (arith, f.place_is)) i;
       }
+
+  -- what is found at p, or else what was found before
+  pub search_there : (p : ℕ) (found here : Option Candidate) → p < size t → Searched p found → NotEnded p found → FoundThere rs t p here → Searched (p + 1) (option_or here found)
+  search_there p found (Some c) inside s w f = search_new p found c inside s w f
+  search_there p found None inside s w f = search_past p found s f
 
   -- ── the end ──
 

@@ -28,5 +28,5 @@ pub record IsSubject (book : List ℕ) (variables : ℕ) (term : List ℕ) (s : 
 pub record RuleMatches (s : Subject) (k p : ℕ) (m : RuleMatch) : Type 0 where
   pub is_rule : k < length (rules_on s)
   pub inside : p < length s.term.now
-  pub matched : Matched (signature_on s) s.variables (rule_at (rules_on s) k).left (part (term_on s) p) m.substitution.parts m.len
+  pub matched : Matched (signature_on s) s.variables (rule_at (rules_on s) k).left (part (term_on s) p) m.found.substitution.parts m.found.len
   pub right_reads : Reads (signature_on s) 4 m.right.now (rule_at (rules_on s) k).right

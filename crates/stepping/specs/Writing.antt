@@ -19,7 +19,7 @@ instance_bytes bs right = expand (piece_of bs) right
 
 -- the instance of the right side of a rule that matches
 abbrev pub instance_of : RuleMatch → List ℕ
-instance_of m = instance_bytes m.substitution.parts m.right.now
+instance_of m = instance_bytes m.found.substitution.parts m.right.now
 
 -- the bytes of a term, the n bytes at the place p replaced by others
 abbrev pub replaced : List ℕ → ℕ → ℕ → List ℕ → List ℕ

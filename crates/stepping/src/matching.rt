@@ -7,11 +7,15 @@ ghost use Rattle.stepping.specs.Bindings.{bound_to, Binds, MatchAnswer};
 
 use book::book::Book;
 use terms::prefix::{VARIABLE, first_term_length};
+use terms::side::RULE_VARIABLES;
+
+// A rule's variables are so many.
+const BINDINGS: usize = RULE_VARIABLES as usize;
 
 // What the four variables of rules stand for: each a part of the term that is matched, or nothing so far.
 #[derive(Clone, Copy)]
 pub(crate) struct Substitution<'a> {
-    parts: [Option<&'a [u8]>; 4],
+    parts: [Option<&'a [u8]>; BINDINGS],
 }
 
 impl<'a> Substitution<'a> {
@@ -61,7 +65,9 @@ pub(crate) fn matches<'a>(
         → Begins (signature_of book.now.tables.bytes.now) variables bytes.now t
         → MatchAnswer (signature_of book.now.tables.bytes.now) variables l t result }
 {
-    let mut substitution = Substitution { parts: [None; 4] };
+    let mut substitution = Substitution {
+        parts: [None; BINDINGS],
+    };
     let mut j = 0;
     for byte in left {
         let byte = *byte;

@@ -27,7 +27,7 @@ impl<'t> Subject<'t> {
             if let Some(matched) = self.match_at(rule, place) {
                 return Some(Candidate {
                     redex: Redex { place, rule },
-                    len: matched.len,
+                    len: matched.found.len,
                 });
             }
         }
@@ -46,9 +46,7 @@ impl<'t> Subject<'t> {
                     return Some(candidate.redex);
                 }
             }
-            if let Some(candidate) = self.redex_at(place) {
-                found = Some(candidate);
-            }
+            found = self.redex_at(place).or(found);
         }
         found.map(|candidate| candidate.redex)
     }

@@ -4,7 +4,7 @@ ghost use Rattle.terms.specs.Prefix.{Reads, IsTerm, term_of};
 ghost use Rattle.terms.proofs.Sorts.{reads_prop};
 ghost use Rattle.book.specs.Meaning.{signature_of};
 
-use crate::matching::{Substitution, matches};
+use crate::matching::{Match, matches};
 use book::book::Book;
 use terms::prefix::is_term;
 
@@ -17,11 +17,10 @@ pub(crate) struct Subject<'t> {
     ghost reads: { Reads (signature_of book.now.tables.bytes.now) variables term.now (term_of (signature_of book.now.tables.bytes.now) term.now) } by { reads_prop _ _ _ _ },
 }
 
-// A match of a rule: what the variables stand for, the length of the part, and the rule's right side.
+// A match of a rule's left side, and the right side.
 #[derive(Clone, Copy)]
 pub(crate) struct RuleMatch<'t> {
-    pub(crate) substitution: Substitution<'t>,
-    pub(crate) len: usize,
+    pub(crate) found: Match<'t>,
     pub(crate) right: &'t [u8],
 }
 
@@ -51,15 +50,13 @@ impl<'t> Subject<'t> {
             (MatchedBy (rules_on self.now) rule (term_on self.now) place → ⊥)
             (RuleMatches self.now rule place) }
     {
-        let term = self.term;
-        if place >= term.len() {
+        if place >= self.term.len() {
             return None;
         }
         let sides = self.book.sides(rule)?;
-        let found = matches(self.book, self.variables, sides.left, &term[place..])?;
+        let found = matches(self.book, self.variables, sides.left, &self.term[place..])?;
         Some(RuleMatch {
-            substitution: found.substitution,
-            len: found.len,
+            found,
             right: sides.right,
         })
     }

@@ -20,12 +20,12 @@ fn write(page: &mut [u8], at: usize, bytes: &[u8]) -> usize
 impl<'t> RuleMatch<'t> {
     // What stands for a byte of the right side: the part that it stands for, or the byte itself.
     fn piece(&self, byte: &'t u8) -> &'t [u8]
-        ensures { result.now ≡ piece_of self.now.substitution.parts byte.now }
+        ensures { result.now ≡ piece_of self.now.found.substitution.parts byte.now }
     {
-        match self.substitution.part(*byte) {
-            Some(part) => part,
-            None => slice::from_ref(byte),
-        }
+        self.found
+            .substitution
+            .part(*byte)
+            .unwrap_or(slice::from_ref(byte))
     }
 
     // Whether the instance of the right side has at most so many bytes.
@@ -59,19 +59,17 @@ impl<'t> RuleMatch<'t> {
     // Writes the term to the front of the page, with the matched part at the place replaced by the instance of the right side. Gives the length, or None,
     // with nothing written, if the page is shorter than that.
     pub(crate) fn write_replaced(&self, term: &[u8], place: usize, page: &mut [u8]) -> Option<usize>
-        requires { place + self.now.len ≤ length term.now }
+        requires { place + self.now.found.len ≤ length term.now }
         ensures { PutInFront
             page.old
-            (replaced term.now place self.now.len (instance_of self.now))
+            (replaced term.now place self.now.found.len (instance_of self.now))
             page.new
             result }
     {
-        let behind = place + self.len;
-        let around = term.len() - self.len;
-        if around > page.len() {
-            return None;
-        }
-        if !self.instance_fits(page.len() - around) {
+        let behind = place + self.found.len;
+        let around = term.len() - self.found.len;
+        let room = page.len().checked_sub(around)?;
+        if !self.instance_fits(room) {
             return None;
         }
         let first = write(page, 0, &term[..place]);

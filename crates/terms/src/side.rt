@@ -17,6 +17,15 @@ pub struct Sides<'a> {
     pub right: &'a [u8],
 }
 
+impl<'a> Sides<'a> {
+    // Whether both are sides of a rule of the signature.
+    pub fn fit<S: Signature>(&self, signature: &S) -> bool
+        ensures { Decides result (IsSide (S.Signature.arities signature.now) self.now.left.now × IsSide (S.Signature.arities signature.now) self.now.right.now) }
+    {
+        is_side(signature, self.left) && is_side(signature, self.right)
+    }
+}
+
 // Whether the bytes are a side of a rule of the signature.
 pub fn is_side<S: Signature>(signature: &S, bytes: &[u8]) -> bool
     ensures { Decides result (IsSide (S.Signature.arities signature.now) bytes.now) }

@@ -8,13 +8,12 @@ ghost use Rattle.unification.specs.Asked.{Asked};
 ghost use Rattle.unification.specs.Critical.{IsTooLong, IsWritten, OfRules, Answer};
 
 use crate::forest::{Forest, Unifier};
-use crate::laying::{LaidSides, lay_sides};
+use crate::laying::{LAID_LIMIT, LaidSides, lay_sides};
 use crate::numbering::{appearances, renumbered};
 use crate::standing::ends;
 use crate::written::Written;
 use terms::prefix::{Signature, VARIABLE};
 use terms::side;
-use terms::side::is_side;
 
 // The peak, and the two terms that it is rewritten to: by the first rule at the root, and by the second at the place.
 #[derive(Clone, Copy)]
@@ -69,7 +68,7 @@ fn overlap<S: Signature>(
     ensures { (a b : Rule) → Sides (S.Signature.arities signature.now) (bytes_of sides.now.codes) sides.now.second sides.now.right sides.now.last a b → OfRules (S.Signature.arities signature.now) a b place result }
 {
     let codes = sides.codes.as_slice();
-    let (mut end, mut rep, mut rank) = ([0u8; 128], [0u8; 128], [0u8; 128]);
+    let (mut end, mut rep, mut rank) = ([0u8; LAID_LIMIT], [0u8; LAID_LIMIT], [0u8; LAID_LIMIT]);
     let end = &mut end[..codes.len()];
     let rep = &mut rep[..codes.len()];
     let rank = &mut rank[..codes.len()];
@@ -79,9 +78,9 @@ fn overlap<S: Signature>(
         codes,
         end,
     };
-    let Some(unifier) = forest.unify(place, sides.second, rep, rank) else {
-        return Err(NoPair::Apart);
-    };
+    let unifier = forest
+        .unify(place, sides.second, rep, rank)
+        .ok_or(NoPair::Apart)?;
     write_pair(&unifier, place, sides).ok_or(NoPair::TooLong)
 }
 
@@ -94,10 +93,8 @@ fn is_asked<S: Signature>(
 ) -> bool
     ensures { Decides result (Asked (S.Signature.arities signature.now) first.entry.left.now first.entry.right.now place second.entry.left.now second.entry.right.now) }
 {
-    is_side(signature, first.left)
-        && is_side(signature, first.right)
-        && is_side(signature, second.left)
-        && is_side(signature, second.right)
+    first.fit(signature)
+        && second.fit(signature)
         && first.left.get(place).is_some_and(|code| *code < VARIABLE)
 }
 

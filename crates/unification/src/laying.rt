@@ -10,15 +10,18 @@ ghost use Rattle.unification.specs.Asked.{rule_of};
 use crate::written::Codes;
 use terms::prefix::{Signature, VARIABLE};
 use terms::side;
-use terms::side::RULE_VARIABLES;
+use terms::side::{RULE_VARIABLES, SIDE_LIMIT};
 
 // What is added to the variables of the second rule: those of the first come before.
 const DISTINCT: u8 = RULE_VARIABLES;
 
+// The most codes of the four sides of two rules.
+pub(crate) const LAID_LIMIT: usize = 4 * SIDE_LIMIT;
+
 // Both left sides and behind them both right sides: the codes, and the offsets at which the second left side and the right sides begin.
 #[derive(Clone, Copy)]
 pub(crate) struct LaidSides {
-    pub(crate) codes: Codes<128>,
+    pub(crate) codes: Codes<LAID_LIMIT>,
     pub(crate) second: usize,
     pub(crate) right: usize,
     pub(crate) last: usize,
@@ -34,7 +37,7 @@ fn shifted(code: u8, shift: u8) -> u8
 }
 
 // Appends the bytes, with `shift` added to each variable.
-fn lay(out: &mut Codes<128>, bytes: &[u8], shift: u8)
+fn lay(out: &mut Codes<LAID_LIMIT>, bytes: &[u8], shift: u8)
     requires room { length (bytes_of out.old) + length bytes.now ≤ 128 }
     requires low { (k : ℕ) → k < length bytes.now → slice_index bytes.now k < 132 }
     requires small { shift ≤ 4 }

@@ -7,9 +7,13 @@ ghost use Rattle.unification.specs.Written.{bytes_of};
 use crate::classes::first_code;
 use crate::written::{Codes, Written};
 use terms::prefix::VARIABLE;
+use terms::side::RULE_VARIABLES;
+
+// The most variables of two rules.
+const PAIR_VARIABLES: usize = 2 * RULE_VARIABLES as usize;
 
 // The variables among the codes in the sequence of their first appearance; there are eight at most.
-pub(crate) fn appearances(codes: &[u8]) -> Codes<8>
+pub(crate) fn appearances(codes: &[u8]) -> Codes<PAIR_VARIABLES>
     requires { (k : ℕ) → k < length codes.now → slice_index codes.now k < 136 }
     ensures { bytes_of result ≡ seen_among [] codes.now }
 {

@@ -27,11 +27,9 @@ impl<'a, S: Signature> Partition<'a, S> {
     {
         let codes = self.forest.codes;
         for j in from..to {
-            if codes[j] >= VARIABLE {
-                let r = self.rep[j] as usize;
-                if codes[r] < VARIABLE && rank[r] == 0 {
-                    return false;
-                }
+            let r = self.rep[j] as usize;
+            if codes[j] >= VARIABLE && codes[r] < VARIABLE && rank[r] == 0 {
+                return false;
             }
         }
         true
@@ -68,9 +66,6 @@ impl<'a, S: Signature> Partition<'a, S> {
             rank[i] = next;
             next += 1;
         }
-        if !all_ranked(self.forest.codes, rank) {
-            return None;
-        }
-        Some(())
+        all_ranked(self.forest.codes, rank).then_some(())
     }
 }

@@ -9,7 +9,7 @@ pub struct Codes<const N: usize> {
     ghost within: { count ≤ N },
 }
 
-// A term in prefix form, of at most 255 bytes.
+// At most 255 codes, for terms in prefix form.
 pub type Written = Codes<255>;
 
 impl<const N: usize> Codes<N> {

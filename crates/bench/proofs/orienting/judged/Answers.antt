@@ -3,5 +3,5 @@ use Rattle.bench.specs.Lines.{line_of}
 use Rattle.bench.specs.Orienting.{BookLine}
 use Rattle.bench.proofs.orienting.judged.Goals as goal
 
-pub returns-in-Ok : goal.returns-in-Ok
-returns-in-Ok c = inl (c.in-Ok.ensures.answer, subst (λ bs. BookLine bs (line_of c.judged_book.result)) c.in-Ok.ensures.place c.judged_book.ensures)
+pub returns : goal.returns
+returns c = inl (c.in_ok-read.ensures.answer, subst (λ bs. BookLine bs (line_of c.judged_book.result)) c.in_ok-read.ensures.place c.judged_book.ensures)

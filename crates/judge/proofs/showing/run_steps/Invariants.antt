@@ -11,4 +11,4 @@ use Rattle.judge.proofs.showing.run_steps.Given as goal
 abbrev pub invariant-loop-step : goal.invariant-loop-step
 invariant-loop-step l =
     (t : Term) → Reads (signature_of l.book.tables.bytes.now) 8 (bytes_of l.first) t
-    → EndsAt (signature_of l.book.tables.bytes.now) (rules_of l.book.tables.bytes.now) (concat (take l.step l.steps)) t l.term
+    → EndsAt (signature_of l.book.tables.bytes.now) (rules_of l.book.tables.bytes.now) (concat (take l.step-counter l.steps)) t l.term

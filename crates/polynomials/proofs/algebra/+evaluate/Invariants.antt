@@ -11,6 +11,6 @@ decreases-evaluate g l = length l.bytes.now
 abbrev pub invariant-loop-i : goal.invariant-loop-i
 invariant-loop-i g l =
     (length l.rest < length l.bytes)
-    × ((t : Term) (begins : Begins (g.S.Symbols.signature l.symbols) 4 l.bytes t) → Throughout (g.A.Algebra.fits l.algebra (g.S.Symbols.interpretation l.symbols)) t
+    × ((t : Term) (begins : Begins (g.S.Signature.arities l.symbols) 4 l.bytes t) → Throughout (g.A.Algebra.fits l.algebra (g.S.Symbols.interpretation l.symbols)) t
     → (l.rest ≡ prefix (behind l.i (arguments t)) ++ begins.rest)
     × g.A.Algebra.entered l.algebra (g.S.Symbols.interpretation l.symbols) (arguments t) l.i l.arguments)

@@ -5,10 +5,15 @@ use Rattle.book.specs.Places.{Entered}
 use Rattle.book.specs.Questions.{SymbolFits}
 use Rattle.book.proofs.Entering.{place_free, symbol_new, symbol_push}
 use Rattle.book.proofs.tables.Tables.enter_symbol.Goals as goal
+use Rattle.book.proofs.tables.Tables.enter_symbol.Goals.{then-code-eq0-via-then-code-eq0, then-code-eq0-via-else-code-eq0+then-arity-gt-ARITY_LIMIT, then-code-eq0-via-else-code-eq0+else-arity-gt-ARITY_LIMIT+then-not-enter}
 
-pub returns-then-not-enter-clause-answer : goal.returns-then-not-enter-clause-answer
-returns-then-not-enter-clause-answer c = λ before s t. (
-  (λ fits. iff_false c.enter.ensures.free c.if-not-enter.true (fits.most, place_free _ before s.laid s.told (meant c.args.field.now) fits)),
+pub returns-then-code-eq0-clause-answer : goal.returns-then-code-eq0-clause-answer
+returns-then-code-eq0-clause-answer c = λ before s t. (
+  (λ fits. elim c.then-code-eq0.branch [
+    | then-code-eq0-via-then-code-eq0 w ↦ omega (arith, fits.least)
+    | then-code-eq0-via-else-code-eq0+then-arity-gt-ARITY_LIMIT w ↦ omega (arith, fits.few)
+    | then-code-eq0-via-else-code-eq0+else-arity-gt-ARITY_LIMIT+then-not-enter w ↦ iff_false w.enter.ensures.free w.if-not-enter.true (fits.most, place_free _ before s.laid s.told (meant c.args.field.now) fits)
+  ]),
   refl,
   refl,
 )

@@ -1,6 +1,5 @@
-use Rattle.std.proofs.Common.{length, get_or, sym, arith}
+use Rattle.std.proofs.Common.{get_or, arith}
 use Rattle.std.proofs.lemmas.Bool.Decides.{not_from_Decides}
-use Rattle.std.proofs.lemmas.Bool.{eqb-true}
 use Rattle.book.specs.Meaning.{signature_of}
 use Rattle.order_theory.specs.Path.{Greater}
 use Rattle.orders.specs.Ranks.{rank_of}
@@ -9,16 +8,16 @@ use Rattle.orders.proofs.path.Path.+path_order.Goals as goal
 
 -- ── greater ──
 
-pub greater-returns-then-is_empty : goal.greater-returns-then-is_empty
-greater-returns-then-is_empty t c = λ a b p q.
+pub greater-returns-in_default : goal.greater-returns-in_default
+greater-returns-in_default t c = λ a b p q.
     let bytes = c.args.self.now.book.tables.bytes.now in
-    let none = not_empty (signature_of bytes) c.args.s.now a (eqb-true (length c.args.s.now) 0 (sym c.if-is_empty.ensures)) p in
+    let none = not_empty (signature_of bytes) c.args.s.now a (omega (arith, c.in_default.len_below)) p in
     says_no (Greater (rank_of bytes) a b) (λ g. none)
 
-pub greater-returns-then-is_empty-2 : goal.greater-returns-then-is_empty-2
-greater-returns-then-is_empty-2 t c = λ a b p q.
+pub greater-returns-in_default-t : goal.greater-returns-in_default-t
+greater-returns-in_default-t t c = λ a b p q.
     let bytes = c.args.self.now.book.tables.bytes.now in
-    let none = not_empty (signature_of bytes) c.args.t.now b (eqb-true (length c.args.t.now) 0 (sym c.if-is_empty-2.ensures)) q in
+    let none = not_empty (signature_of bytes) c.args.t.now b (omega (arith, c.in_default-t.len_below)) q in
     says_no (Greater (rank_of bytes) a b) (λ g. none)
 
 pub greater-returns-then-f-ge-VARIABLE : goal.greater-returns-then-f-ge-VARIABLE
@@ -98,7 +97,7 @@ greater_by_arguments-returns t c = λ f us vs xs ys p q k ex ey.
 pub greater_or_same-returns-then-eq : goal.greater_or_same-returns-then-eq
 greater_or_same-returns-then-eq t c = λ a b p q.
     let bytes = c.args.self.now.book.tables.bytes.now in
-    same_yes (signature_of bytes) (rank_of bytes) c.args.s.now c.args.t.now a b ((same_slices _ _ _ c.eq.ensures).0 c.if-eq.true) p q
+    rw c.if-eq.true (same_yes (signature_of bytes) (rank_of bytes) c.args.s.now c.args.t.now a b ((same_slices _ _ _ c.eq.ensures).0 c.if-eq.true) p q)
 
 -- ── greater than all ──
 

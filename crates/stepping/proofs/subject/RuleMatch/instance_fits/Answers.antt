@@ -5,10 +5,10 @@ use Rattle.stepping.proofs.subject.RuleMatch.instance_fits.Goals as goal
 
 pub returns-then-n-left : goal.returns-then-n-left
 returns-then-n-left c =
-    let f = piece_of c.args.self.now.substitution.parts in
+    let f = piece_of c.args.self.now.found.substitution.parts in
     let more = length_more f c.args.self.now.right.now c.loop-byte.byte-index c.loop-byte-test.true in
     let part = expand_part f c.args.self.now.right.now (c.loop-byte.byte-index + 1) in
-    let piece = ap length {y = piece_of c.args.self.now.substitution.parts (get_or c.args.self.now.right.now c.loop-byte.byte-index 0)} c.piece-n.ensures in
+    let piece = ap length {y = piece_of c.args.self.now.found.substitution.parts (get_or c.args.self.now.right.now c.loop-byte.byte-index 0)} c.piece-n.ensures in
     let inv = c.loop-byte.invariant in (
       (λ e. let z : ◌≡◌ {A = ℕ} 0 1 = cc in absurd (omega arith)),
       (λ h. absurd (omega (arith, c.if-n-left.true))),
@@ -16,13 +16,13 @@ returns-then-n-left c =
 
 pub loop-byte-preserved : goal.loop-byte-preserved
 loop-byte-preserved c =
-    let more = length_more (piece_of c.args.self.now.substitution.parts) c.args.self.now.right.now c.loop-byte.byte-index c.loop-byte-test.true in
-    let piece = ap length {y = piece_of c.args.self.now.substitution.parts (get_or c.args.self.now.right.now c.loop-byte.byte-index 0)} c.piece-n.ensures in
+    let more = length_more (piece_of c.args.self.now.found.substitution.parts) c.args.self.now.right.now c.loop-byte.byte-index c.loop-byte-test.true in
+    let piece = ap length {y = piece_of c.args.self.now.found.substitution.parts (get_or c.args.self.now.right.now c.loop-byte.byte-index 0)} c.piece-n.ensures in
     let inv = c.loop-byte.invariant in
     omega (arith, c.if-n-left.false)
 
 pub returns : goal.returns
 returns c =
-    let all = ap length (expand_all (piece_of c.args.self.now.substitution.parts) c.args.self.now.right.now c.loop-byte.byte-index c.loop-byte-test.false) in
+    let all = ap length (expand_all (piece_of c.args.self.now.found.substitution.parts) c.args.self.now.right.now c.loop-byte.byte-index c.loop-byte-test.false) in
     let inv = c.loop-byte.invariant in
     ((λ e. omega arith), λ h. refl)

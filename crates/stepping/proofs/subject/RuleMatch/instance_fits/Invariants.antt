@@ -4,4 +4,4 @@ use Rattle.stepping.specs.Writing.{instance_bytes}
 use Rattle.stepping.proofs.subject.RuleMatch.instance_fits.Given as goal
 
 abbrev pub invariant-loop-byte : goal.invariant-loop-byte
-invariant-loop-byte l = length (instance_bytes l.self.substitution.parts (take l.byte-index l.self.right.now)) + l.left ≡ l.room
+invariant-loop-byte l = length (instance_bytes l.self.found.substitution.parts (take l.byte-index l.self.right.now)) + l.left ≡ l.room
