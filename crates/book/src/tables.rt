@@ -6,7 +6,6 @@ ghost use Rattle.book.specs.Tags.{tag_number};
 ghost use Rattle.book.specs.Faults.{number_of, offset_of};
 ghost use Rattle.book.specs.Questions.{TagKnown, LengthFits, SymbolFits, SidesFit, RoomForRule, field_questions};
 ghost use Rattle.book.specs.Meaning.{signature};
-ghost use Rattle.book.specs.Tables.{RuleRefused, StandsNext, TablesOf, kept_signature};
 ghost use Rattle.book.specs.Views.{meant};
 
 use crate::fault::Fault;
@@ -30,13 +29,17 @@ pub(crate) struct Tables<'a> {
     pub(crate) arities: Places,
     pub(crate) symbols: usize,
     pub(crate) rules: Offsets,
+    ghost short: { length bytes.now ≤ 4096 },
 }
 
 impl<'a> Signature for Tables<'a> {
+    ghost use Rattle.book.specs.Tables.{kept_signature};
+
     ghost arities = { kept_signature };
 
+    // What is kept for a code without a place is behind the last byte, so that it need not be told apart here: each byte of each term is asked about.
     fn arity(&self, code: u8) -> Option<u8> {
-        let place = self.arities.get(code)?;
+        let place = self.arities.kept(code)?;
         self.bytes.get(place).copied()
     }
 }
@@ -57,8 +60,11 @@ fn known_tag(field: &Field) -> Result<Tag, Fault>
 }
 
 impl<'a> Tables<'a> {
+    ghost use Rattle.book.specs.Tables.{RuleRefused, StandsNext, TablesOf, kept_signature};
+
     // The tables of no fields.
     pub(crate) fn new(bytes: &'a [u8]) -> Tables<'a>
+        requires { length bytes.now ≤ 4096 }
         ensures bytes { result.bytes.now ≡ bytes.now }
         ensures tabled { TablesOf result [] }
     {
