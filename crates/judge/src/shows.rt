@@ -24,8 +24,12 @@ impl<'a> Judge<'a> {
             (λ e. ShowRefused (rules_of self.now.book.tables.bytes.now) self.now.progress ticket.now.triple outer_list.now inner_list.now (length page.old) e) }
     {
         let page = page.first_chunk_mut::<PAGE>().ok_or(ShowFault::ShortPage)?;
-        let pair = self.pair_out(ticket).ok_or(ShowFault::OtherTicket)?;
+        // what refuses is asked before the pair is made, which is work
+        if !self.progress.is_out(&ticket.triple()) {
+            return Err(ShowFault::OtherTicket);
+        }
         let joining = Joining::told(outer_list, inner_list).ok_or(ShowFault::BadLists)?;
+        let pair = self.pair_out(ticket).ok_or(ShowFault::OtherTicket)?;
         check_joining(&self.book, &pair, &joining, page)
     }
 

@@ -48,10 +48,14 @@ impl<'a> Judge<'a> {
             × (outer.new ≡ outer.old)
             × (inner.new ≡ inner.old)) }
     {
-        let pair = self.pair_out(ticket).ok_or(SidesFault::OtherTicket)?;
+        // what refuses is asked before the pair is made, which is the work
+        if !self.progress.is_out(&ticket.triple()) {
+            return Err(SidesFault::OtherTicket);
+        }
         if outer.len() < TERM || inner.len() < TERM {
             return Err(SidesFault::ShortBuffer);
         }
+        let pair = self.pair_out(ticket).ok_or(SidesFault::OtherTicket)?;
         let a = pair.outer.as_slice();
         let b = pair.inner.as_slice();
         copy_front(outer, a);
