@@ -52,6 +52,7 @@ pub(crate) struct Match<'a> {
 }
 
 // Matches the left side of a rule with the term that the bytes begin with; None if that is no instance of it.
+#[inline(always)]
 pub(crate) fn matches<'a>(
     book: &Book,
     variables: u8,

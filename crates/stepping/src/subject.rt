@@ -45,6 +45,7 @@ impl<'t> Subject<'t> {
     }
 
     // Matches a rule at a place; None if it does not match there, or there is no such rule or place.
+    #[inline(always)]
     pub(crate) fn match_at(&self, rule: usize, place: usize) -> Option<RuleMatch<'t>>
         ensures { MatchOption result
             (MatchedBy (rules_on self.now) rule (term_on self.now) place → ⊥)
